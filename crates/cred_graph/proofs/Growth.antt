@@ -1,5 +1,5 @@
 -- A graph stays a graph where a node, a listener or a solution is added.
-use Rattle.std.proofs.Common.{ℕ, zero, suc, ◌<◌, ◌≤◌, ◌+◌, ◌≡◌, ◌∙◌, ◌⊎◌, refl, sym, ap, subst, inl, inr, List, [], ◌∷◌, ◌++◌, Some, Contains, length, slice_get, arith}
+use Rattle.std.proofs.Common.{ℕ, zero, suc, ◌<◌, ◌≤◌, ◌+◌, ◌≡◌, ◌∙◌, ◌⊎◌, refl, sym, ap, subst, inl, inr, List, [], ◌∷◌, ◌++◌, Some, Contains, length, slice_get, arith, None}
 use Rattle.std.specs.Prelude.{slice_set}
 use Rattle.std.proofs.lemmas.Bool.{cases_eq}
 use Rattle.std.proofs.lemmas.List.{take-append-le, length_push, length-set, get_or-set_same, get_or-set_other}
@@ -12,10 +12,12 @@ use Rattle.credential_text.specs.Expr.{part_expr, HasPartsInRange}
 use Rattle.cred_graph.specs.declared.listeners.Listening.{Listening}
 use Rattle.cred_graph.specs.declared.solutions.Solution.{Solution}
 use Rattle.cred_graph.specs.declared.solutions.Reason.{Reason}
-use Rattle.cred_graph.specs.declared.solutions.Reason.TheVariants as reason
-use Rattle.cred_graph.specs.Graph.{GraphState, IsNode, Listens, IsSolution, Known, before, Fits, IsGraph}
+use Rattle.cred_graph.specs.Graph.{GraphState, IsNode, Listens, IsSolution, Known, before, Fits, IsGraph, empty_graph}
 use Rattle.cred_graph.specs.NodeLists.{list_at}
-use Rattle.cred_graph.proofs.Lists.{Contains-at_place, slice_get_stays, slice_get_push_cases}
+use Rattle.cred_graph.proofs.NodeListLemmas.{Contains-at_place, slice_get_stays, slice_get_push_cases}
+use Rattle.cred_graph.specs.declared.listeners.KeptListening.{KeptListening}
+use Rattle.cred_graph.specs.Stored.{graph_as, IsStored}
+use Rattle.cred_graph.specs.declared.solutions.Reason.TheVariants as reason
 
 -- nodes and solutions stay
 pub record Grows (g h : GraphState) : Type 0 where
@@ -135,8 +137,7 @@ graph_with_listener g n l graph absent asked asker =
 
 -- the entity is no solution of the node: so it stands at no place
 pub other_solution : (g : GraphState) (s t : Solution) (i : ℕ) → (IsSolution g s.node s.who → ⊥) → slice_get g.solutions i ≡ Some t → s.node ≡ t.node → s.who ≡ t.who → ⊥
-other_solution g s t i absent at node who =
-    absent (t.reason, rw (node, who) (Contains-at_place g.solutions i t at))
+other_solution g s t i absent at node who = absent (t.reason, rw (node, who) (Contains-at_place g.solutions i t at))
 
 pub one_solution_more : (g : GraphState) (s : Solution) → IsGraph g → (IsSolution g s.node s.who → ⊥) →
     (i j : ℕ) (t u : Solution) → slice_get (g.solutions ++ s ∷ []) i ≡ Some t → slice_get (g.solutions ++ s ∷ []) j ≡ Some u → t.node ≡ u.node → t.who ≡ u.who → i ≡ j
@@ -154,10 +155,7 @@ one_solution_more g s graph absent i j t u p q node who =
 
 -- the solutions found before a place stay the same
 pub solution_grows : (g : GraphState) (s : Solution) (i : ℕ) → i ≤ length g.solutions → Grows (before i g) (before i (with_solution g s))
-solution_grows g s i within = record {
-  nodes = λ n f node. node;
-  solutions = λ t stands. rw (take-append-le i g.solutions (s ∷ []) within) stands;
-}
+solution_grows g s i within = record { nodes = λ n f node. node; solutions = λ t stands. rw (take-append-le i g.solutions (s ∷ []) within) stands }
 
 pub justified_more : (g : GraphState) (s : Solution) → IsGraph g → Fits g s.node s.who s.reason →
     (i : ℕ) (t : Solution) → slice_get (g.solutions ++ s ∷ []) i ≡ Some t → Fits (before i (with_solution g s)) t.node t.who t.reason
@@ -184,3 +182,36 @@ graph_with_solution g s graph absent fits = record {
   one_solution = one_solution_more g s graph absent;
   justified = justified_more g s graph fits;
 }
+
+-- what holds of each node, listener and solution holds where there is none
+
+no_place : {X : Type 0} {P : Type 0} (i : ℕ) (x : X) → slice_get [] i ≡ Some x → P
+no_place i x at = let clash : None ≡ Some x = at in cc
+
+empty : IsGraph empty_graph
+empty = record {
+  one_node = λ i j x p q. no_place i x p;
+  parts_in_range = λ n e at. no_place n e at;
+  one_list_each = refl;
+  askers_in_range = λ n l there. absurd (omega (arith, there.1));
+  one_listening = λ n i j l p q. no_place i l p;
+  one_solution = λ i j s t p q node who. no_place i s p;
+  justified = λ i s at. no_place i s at;
+}
+
+abbrev Tables : Type 0
+Tables = List (List KeptListening) × List ((ℕ × ℕ) × Reason ℕ ℕ)
+
+pub stored : (nodes strangers : List Expr) (tables : Tables) → nodes ≡ [] → strangers ≡ [] → tables ≡ ([], []) → IsStored nodes strangers tables.0 tables.1
+stored nodes strangers tables a b c = rw (a, b, c) (record {
+  graph = empty;
+  short = omega arith;
+  once = λ i j x p q. no_place i x p;
+  asked = λ n above. refl;
+  ports = λ n l there. absurd (omega (arith, there.1));
+  members = λ j e at. no_place j e at;
+  reasons = λ j e at. no_place j e at;
+})
+
+pub none : (nodes strangers : List Expr) (tables : Tables) → nodes ≡ [] → tables ≡ ([], []) → graph_as nodes strangers tables.0 tables.1 ≡ empty_graph
+none nodes strangers tables a b = rw (a, b)

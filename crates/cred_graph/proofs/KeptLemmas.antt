@@ -12,7 +12,7 @@ use Rattle.cred_graph.specs.NodeLists.{IsOnce}
 use Rattle.cred_graph.specs.Numbers.{IsEntity, entity_at}
 use Rattle.cred_graph.specs.Stored.{kept_as, IsKept, Joins, listening_as}
 use Rattle.cred_graph.proofs.Growth.{one_place}
-use Rattle.cred_graph.proofs.Lists.{Contains-at_place, place_of_Contains, slice_get_stays, behind_map, seen_at}
+use Rattle.cred_graph.proofs.NodeListLemmas.{Contains-at_place, place_of_Contains, slice_get_stays, behind_map, seen_at}
 use Rattle.cred_graph.proofs.NumberLemmas.{entity_is, entity_stands, entity_goes_on, entity_stays}
 
 module _ (nodes more : List Expr) (strangers : List Expr) where

@@ -1,4 +1,3 @@
-pub mod Lists
 pub mod Found
 pub mod Growth
 pub mod Keys
@@ -9,5 +8,3 @@ pub mod SolutionLemmas
 pub mod ListenerLemmas
 pub mod KeptLemmas
 pub mod StoredLemmas
-pub mod Solvers
-pub mod EmptyLemmas

@@ -10,7 +10,7 @@ use Rattle.std.proofs.lemmas.Option.{none-some, same_Some, slice_get-get_or}
 use Rattle.indexmap.specs.IndexMap.{insert_entry}
 use Rattle.indexmap.specs.IndexSet.{insert_key}
 use Rattle.indexmap.proofs.CallerLemmas.{Contains-list_any}
-use Rattle.cred_graph.proofs.Lists.{place_of_Contains}
+use Rattle.cred_graph.proofs.NodeListLemmas.{place_of_Contains}
 
 module _ {K : Type 0} (eq : K → K → Bool) (exact : (x y : K) → Decides (eq x y) (x ≡ y)) where
   any_at : (ks : List K) (k : K) (j : ℕ) → slice_get ks j ≡ Some k → list_any (eq k) ks ≡ true
@@ -49,8 +49,7 @@ module _ {K : Type 0} (eq : K → K → Bool) (exact : (x y : K) → Decides (eq
 
     lookup_none_step : (f : K × V) (es : List (K × V)) (k : K) (e : K × V) → k ≡ e.0 → eq k f.0 ≡ false →
         ((j : ℕ) (e : K × V) → slice_get es j ≡ Some e → k ≡ e.0 → ⊥) → (j : ℕ) → slice_get (f ∷ es) j ≡ Some e → ⊥
-    lookup_none_step f es k e same other rest zero at =
-        true≢false (sym ((exact k f.0).1 (same ∙ ap (λ (x : K × V). x.0) (sym (same_Some f e at)))) ∙ other)
+    lookup_none_step f es k e same other rest zero at = true≢false (sym ((exact k f.0).1 (same ∙ ap (λ (x : K × V). x.0) (sym (same_Some f e at)))) ∙ other)
     lookup_none_step f es k e same other rest (suc j) at = rest j e at same
 
     pub lookup_key_none : (es : List (K × V)) (k : K) → lookup_key (eq k) es ≡ None → (j : ℕ) (e : K × V) → slice_get es j ≡ Some e → k ≡ e.0 → ⊥

@@ -8,7 +8,7 @@ use Rattle.cred_graph.specs.declared.listeners.Port.TheVariants as port
 use Rattle.cred_graph.specs.declared.solutions.Reason.{Reason}
 use Rattle.cred_graph.specs.declared.solutions.Reason.TheVariants as reason
 use Rattle.cred_graph.specs.Numbers.{IsEntity, entity_of, entity_at, port_at, IsPort, IsNamed, reason_at, IsReason}
-use Rattle.cred_graph.proofs.Lists.{Contains-at_place, slice_get_stays}
+use Rattle.cred_graph.proofs.NodeListLemmas.{Contains-at_place, slice_get_stays}
 
 -- the entity that a node is
 pub entity_is : (nodes : List Expr) (k : ℕ) (who : List ℕ) → slice_get nodes k ≡ Some (Ent who) → entity_at nodes k ≡ who

@@ -16,10 +16,10 @@ use Rattle.cred_graph.specs.NodeLists.{list_at, AreSame, AddsAt}
 use Rattle.cred_graph.specs.Stored.{IsKept, Joins, listening_as, lists_from, HasKey, solution_as, graph_as, IsStored, HearsOf, kept_as, Solves, members_by}
 use Rattle.cred_graph.proofs.Growth.{listed_with, with_node, with_listener, with_solution, graph_with_node, graph_with_listener, graph_with_solution}
 use Rattle.cred_graph.proofs.KeptLemmas.{kept_with_node, same_with_node, kept_joined, same_joined, once_joined, listens_kept, listens_as}
-use Rattle.cred_graph.proofs.Lists.{Contains-at_place, place_of_Contains, slice_get_push_cases, slice_get_pushed, map_same, behind_map, seen_at, pushed_there, filter_mapped, filtered_from, map-map}
+use Rattle.cred_graph.proofs.NodeListLemmas.{Contains-at_place, place_of_Contains, slice_get_push_cases, slice_get_pushed, map_same, behind_map, seen_at, pushed_there, filter_mapped, filtered_from, map-map}
 use Rattle.cred_graph.proofs.NumberLemmas.{entity_goes_on, entity_stands, entity_stays, reason_goes_on, reason_stays, entity_is}
 use Rattle.cred_graph.specs.declared.listeners.KeptPort.{KeptPort}
-use Rattle.cred_graph.proofs.Solvers.{solver_has_node}
+use Rattle.cred_graph.proofs.SolutionLemmas.{solver_has_node}
 
 -- the lists of listeners
 
@@ -54,8 +54,7 @@ lists_same : (nodes others : List Expr) (strangers names : List Expr) (lists aft
     ((m : ℕ) → map (listening_as others names) (list_at after m) ≡ map (listening_as nodes strangers) (list_at lists m)) → (n k : ℕ) →
     lists_from others names n k after ≡ lists_from nodes strangers n k lists
 lists_same nodes others strangers names lists after agree n zero = refl
-lists_same nodes others strangers names lists after agree n (suc k) =
-    λ i. agree n i ∷ lists_same nodes others strangers names lists after agree (suc n) k i
+lists_same nodes others strangers names lists after agree n (suc k) = λ i. agree n i ∷ lists_same nodes others strangers names lists after agree (suc n) k i
 
 -- a list that is added to
 lists_with : (nodes : List Expr) (strangers : List Expr) (k : ℕ) (lists after : List (List KeptListening)) (n : ℕ) (l : KeptListening) → n < k → AddsAt lists after n l →
@@ -242,8 +241,7 @@ node_given nodes after strangers lists entries e n stored absent range is number
     (absent, range, number, ap (λ ns. graph_as ns strangers lists entries) is ∙ node_view nodes strangers lists entries e stored)
 
 pub node_stands : (nodes after : List Expr) (e : Expr) (n : ℕ) → after ≡ nodes ++ e ∷ [] → n ≡ length nodes → slice_get after n ≡ Some e
-node_stands nodes after e n is number =
-    ap (λ ns. slice_get ns n) is ∙ ap (slice_get (nodes ++ e ∷ [])) number ∙ slice_get_pushed nodes e
+node_stands nodes after e n is number = ap (λ ns. slice_get ns n) is ∙ ap (slice_get (nodes ++ e ∷ [])) number ∙ slice_get_pushed nodes e
 
 -- what a call gives that adds a listener or a solution to the tables
 

@@ -4,7 +4,7 @@ use Rattle.std.specs.Prelude.{count_by, MatchOption}
 use Rattle.std.proofs.lemmas.List.Sums.{sum_by-cons}
 use Rattle.search.specs.{declared.queries.Need.Need, Search.SearchState, Search.IsCompleted, Search.IsSoundStage}
 use Rattle.search.specs.declared.outcomes.Finished.TheVariants as finished
-use Rattle.search.proofs.Stays.{held_none}
+use Rattle.search.proofs.Driven.{held_none}
 use Rattle.hall.specs.declared.calls.steps.{Step.Step, Stepped.Stepped}
 use Rattle.hall.specs.declared.calls.steps.Stepped.TheVariants as stepped
 use Rattle.hall.specs.Hall.{StepsSearch, StepsEach}

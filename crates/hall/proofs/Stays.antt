@@ -10,7 +10,7 @@ use Rattle.search.specs.Finish.{IsDriven}
 use Rattle.search.specs.Stage.{IsQuiet}
 use Rattle.search.specs.Ending.{Settled}
 use Rattle.search.proofs.Answered.{answers_as}
-use Rattle.search.proofs.Stays.{waits_none, signals_none}
+use Rattle.search.proofs.Driven.{waits_none, signals_none}
 use Rattle.hall.specs.Hall.{HallState, Running, IsCarriedOn, search_at}
 use Rattle.std.specs.Result.{OnErr}
 use Rattle.std.specs.declared.alloc.AllocError.{AllocError}

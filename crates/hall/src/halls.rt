@@ -29,7 +29,7 @@ pub struct Hall {
     book: Book,
     tenants: Tenants,
     pub(crate) busy: Busy,
-    // The tables of a search that was ended, and of letters of one that was completed, for the next one that is opened.
+    // The tables of a search that was ended, for the next one that is opened.
     spare: Tables,
 }
 
@@ -227,8 +227,7 @@ impl Hall {
     }
 
     /// Lends the tenant's search of the number to what is done to it, beside something of who does it. Tells then whether the search
-    /// has come to its end, takes it out of those that may still go on where it has, and leaves the tables of its letters. The order
-    /// of refusals: 62, 51.
+    /// has come to its end, and takes it out of those that may still go on where it has. The order of refusals: 62, 51.
     #[inline(always)]
     pub(crate) fn lend<A, T, F: FnOnce(&mut OpenSearch, &mut A) -> T>(
         &mut self,
@@ -248,7 +247,6 @@ impl Hall {
         let opened = self.tenants.opened_mut(who, number)?;
         let told = does(opened, beside);
         let over = settle(&mut self.busy, who, number, opened.carried.search());
-        opened.leave_letters(&mut self.spare);
         Ok((told, over))
     }
 

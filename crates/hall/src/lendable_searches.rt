@@ -50,31 +50,21 @@ impl LendableSearch {
         }
     }
 
-    /// Keeps no more room than it needs: from now on, where it isn't completed yet. One that somebody else has stays as it is.
-    pub(crate) fn give_back(&mut self)
+    /// Keeps no more room than it needs: from now on, where it isn't completed yet. The tables of its letters are spare then, where
+    /// there are no others. One that somebody else has stays as it is.
+    pub(crate) fn give_back(&mut self, spare: &mut Tables)
         requires carried { IsLendable self.old }
         ensures same { lendable_search self.new ≡ lendable_search self.old }
         ensures carried { IsLendable self.new }
     {
         match self {
-            LendableSearch::Own(search) => search.give_back(),
+            LendableSearch::Own(search) => search.give_back(spare),
             LendableSearch::Lent(shared) => {
                 if let Some(search) = Arc::get_mut(shared) {
-                    search.give_back();
+                    search.give_back(spare);
                 }
             }
             LendableSearch::Moving => {}
-        }
-    }
-
-    /// Leaves the tables of its letters as spare ones, where it is completed, by few letters, and no others are spare.
-    pub(crate) fn leave_letters(&mut self, spare: &mut Tables)
-        requires carried { IsLendable self.old }
-        ensures same { lendable_search self.new ≡ lendable_search self.old }
-        ensures carried { IsLendable self.new }
-    {
-        if let LendableSearch::Own(search) = self {
-            search.leave_letters(spare);
         }
     }
 
@@ -90,10 +80,10 @@ impl LendableSearch {
     /// Ends the search. Where nobody else has it, its tables are spare then.
     pub(crate) fn leave_tables(self, spare: &mut Tables) {
         match self {
-            LendableSearch::Own(search) => spare.take_over(search.into_tables()),
+            LendableSearch::Own(search) => search.leave_tables(spare),
             LendableSearch::Lent(shared) => {
                 if let Some(search) = Arc::into_inner(shared) {
-                    spare.take_over(search.into_tables());
+                    search.leave_tables(spare);
                 }
             }
             LendableSearch::Moving => {}

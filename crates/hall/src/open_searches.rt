@@ -114,19 +114,12 @@ impl OpenSearch {
         Ok(Some(self.carried.lend(alloc)?))
     }
 
-    /// Keeps no more room than it needs: from now on, where it isn't completed yet.
-    pub(crate) fn give_back(&mut self)
+    /// Keeps no more room than it needs: from now on, where it isn't completed yet. The tables of its letters are spare then, where
+    /// there are no others.
+    pub(crate) fn give_back(&mut self, spare: &mut Tables)
         ensures { self.new ≡ self.old }
     {
-        self.carried.give_back();
-    }
-
-    /// Leaves the tables of its letters as spare ones, where it is completed, by few letters, and no others are spare.
-    #[inline(never)]
-    pub(crate) fn leave_letters(&mut self, spare: &mut Tables)
-        ensures { self.new ≡ self.old }
-    {
-        self.carried.leave_letters(spare);
+        self.carried.give_back(spare);
     }
 
     /// Hands in the letters of the batch, which are of this search under that name, and goes on with it where that is asked and

@@ -22,7 +22,6 @@ use search::{Query, Search, Tables};
 use snapshots::Snapshot;
 use std::alloc::Global;
 use std::marker::Model;
-use std::mem;
 use std::sync::Arc;
 use vaults::{Book, Change};
 
@@ -122,11 +121,11 @@ impl Seat {
         let work = self.limits.work();
         let snapshot = self.sight(alloc, book, who)?;
         let opened_at = book.journal_len();
+        give_back(&mut self.searches, self.opens, spare);
         self.searches.insert(
             number,
             begin(alloc, opened_at, snapshot, query, work, spare)?,
         )?;
-        give_back(&mut self.searches, self.opens);
         self.opens = number;
         Ok(number)
     }
@@ -205,12 +204,12 @@ impl Seat {
     }
 }
 
-/// The search of the number, which another one follows, keeps no more room than it needs.
-fn give_back(searches: &mut IndexMap<u64, OpenSearch>, number: u64)
+/// The search of the number, which another one follows, keeps no more room than it needs, and leaves the tables of its letters.
+fn give_back(searches: &mut IndexMap<u64, OpenSearch>, number: u64, spare: &mut Tables)
     ensures { searches.new.entries ≡ searches.old.entries }
 {
     if let Some(opened) = searches.get_mut(&number) {
-        opened.give_back();
+        opened.give_back(spare);
     }
 }
 
@@ -228,7 +227,6 @@ fn begin(
         ≡ record { opened_at = opened_at; search = new_search query work (arc_value snapshot) }) }
     ensures only_memory { IfErr result (λ f. f ≡ Fault.Memory) }
 {
-    let tables = mem::replace(spare, Tables::new(alloc));
-    let carried = LendableSearch::Own(Search::open_in(tables, alloc, snapshot, query, work)?);
+    let carried = LendableSearch::Own(Search::open_in(spare, alloc, snapshot, query, work)?);
     Ok(OpenSearch { opened_at, carried })
 }

@@ -105,13 +105,7 @@ module _ {K : Type 0} (eq : K → K → Bool) (laws : IsEquivalence eq) (exact :
       after = insert_entry eq es who u
 
       adds : (name : K → List ℕ) → TellsApart name (who ∷ keys_of es) → AddsTeller parts (named name es) part (name who) t u
-      adds name apart = record {
-        are = are name apart;
-        line = λ p. line p ∙ sym (named_line name apart p);
-        written = written;
-        below = below;
-        absent = absent;
-      }
+      adds name apart = record { are = are name apart; line = λ p. line p ∙ sym (named_line name apart p); written = written; below = below; absent = absent }
 
       heard_new : HearsByName before (record { parts = parts; lines = after }) part who (u.count == parts)
       heard_new name apart =

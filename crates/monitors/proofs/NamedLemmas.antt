@@ -1,16 +1,19 @@
 -- Lines by key and the same by name: a key is found where its name is, and inserted there.
-use Rattle.std.proofs.Common.{◌≡◌, ℕ, Bool, true, false, cond, List, [], ◌∷◌, Option, Some, None, refl, sym, ap, ◌∙◌, nat_eq, if◌then◌else◌, true≢false, arith}
-use Rattle.std.specs.Cmp.{IsEquivalence}
+use Rattle.std.proofs.Common.{◌≡◌, ℕ, Bool, true, false, cond, List, [], ◌∷◌, Option, Some, None, refl, sym, ap, ◌∙◌, nat_eq, if◌then◌else◌, true≢false, arith, ◌==◌, ◌&&◌, ◌||◌}
+use Rattle.std.specs.Cmp.{IsEquivalence, IsTotalOrder, both_tied, unsigned_ties}
 use Rattle.std.specs.Cmp.Lexicographic.{pointwise, texts_ties}
 use Rattle.std.specs.List.{IsDistinct, AllByRecursion}
 use Rattle.std.specs.Map.{keys_of, lookup}
-use Rattle.std.proofs.lemmas.Cmp.{nat_list_eq_equiv}
+use Rattle.std.proofs.lemmas.Cmp.{nat_list_eq_equiv, on_total, nat_list_cmp_total}
 use Rattle.std.proofs.lemmas.List.Elements.{Contains-get_or, Contains-append_right, All-contains_itself, recursion_from_All}
 use Rattle.indexmap.specs.IndexMap.{insert_entry}
 use Rattle.monitors.specs.declared.tellers.Tellers.{Tellers}
-use Rattle.monitors.specs.MeetMonitor.{TellsApart, named}
+use Rattle.monitors.specs.MeetMonitor.{TellsApart, named, told_order}
 use Rattle.std.proofs.lemmas.Map.Lookups.{exact_bytes}
 use Rattle.std.proofs.lemmas.Map.Views.{tells_apart}
+use Rattle.std.specs.Ordering.{eq_by_cmp}
+use Rattle.std.specs.FinMap.{IsAntisymmetric, nat_cmp-IsAntisymmetric, slice_cmp-IsAntisymmetric}
+use Rattle.std.specs.FinSet as set
 
 -- equal names are the same
 pub same_name : (x y : List ℕ) → pointwise nat_eq x y ≡ true → x ≡ y
@@ -102,3 +105,31 @@ once_still (e ∷ es) who u (first, rest) = by (pointwise nat_eq who e.0) refl (
     by : (b : Bool) → pointwise nat_eq who e.0 ≡ b → IsDistinct (pointwise nat_eq) (keys_of (insert_entry (pointwise nat_eq) es who u)) → IsDistinct (pointwise nat_eq) (keys_of (if b then (e.0, u) ∷ es else e ∷ insert_entry (pointwise nat_eq) es who u))
     by true same more = (first, rest)
     by false other more = (others_still es e.0 who u (nat_list_eq_equiv.symm e.0 who ∙ other) first, more)
+
+-- pairs of a part and an entity are in order as the lists of the part and the entity's bytes are
+
+abbrev pair_list : ℕ × List ℕ → List ℕ
+pair_list t = t.0 ∷ t.1
+
+abbrev list_pair : List ℕ → ℕ × List ℕ
+list_pair [] = (0, [])
+list_pair (n ∷ name) = (n, name)
+
+pub told_order_total : IsTotalOrder told_order
+told_order_total = on_total pair_list nat_list_cmp_total
+
+pub told_order_tied : IsAntisymmetric told_order
+told_order_tied t u e = ap list_pair (slice_cmp-IsAntisymmetric nat_cmp-IsAntisymmetric (pair_list t) (pair_list u) e)
+
+-- two pairs are tied where both their parts and both their entities are the same
+pub told_order_ties : (t u : ℕ × List ℕ) → eq_by_cmp told_order t u ≡ (t.0 == u.0 && pointwise nat_eq t.1 u.1)
+told_order_ties t u = sym (both_tied (t.0 == u.0) (pointwise nat_eq t.1 u.1) _ _ (unsigned_ties t.0 u.0) (texts_ties t.1 u.1))
+
+-- a pair that is there changes nothing
+pub told_again : (s : set.FinSet told_order) (pair : ℕ × List ℕ) → set.contains s pair ≡ true → s ≡ set.insert s pair
+told_again s pair there =
+    sym (set.same_set told_order_total told_order_tied (set.insert s pair) s (λ q. set.contains-insert told_order_total s pair q ∙ by q (eq_by_cmp told_order q pair) refl))
+  where
+    by : (q : ℕ × List ℕ) (b : Bool) → eq_by_cmp told_order q pair ≡ b → (b || set.contains s q) ≡ set.contains s q
+    by q true e = sym (ap (set.contains s) (tells_apart told_order_tied q pair e) ∙ there)
+    by q false e = refl

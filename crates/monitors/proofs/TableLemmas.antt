@@ -1,10 +1,9 @@
 -- The table of an intersection's monitor, as a set of pairs.
-use Rattle.std.proofs.Common.{◌≡◌, ◌≢◌, ℕ, suc, zero, ◌+◌, ◌<◌, ◌≤◌, ◌==◌, ◌&&◌, ◌||◌, Bool, true, false, cond, List, [], ◌∷◌, Some, None, refl, sym, ap, subst, ◌∙◌, arith, nat_eq, get_or, set, true≢false}
+use Rattle.std.proofs.Common.{◌≡◌, ℕ, suc, zero, ◌+◌, ◌<◌, ◌≤◌, ◌↔◌, Bool, true, false, List, [], ◌∷◌, filter, length, refl, sym, arith, get_or, set, true≢false, ◌≢◌, ◌==◌, ◌&&◌, ◌||◌, cond, Some, None, ap, subst, ◌∙◌, nat_eq}
 use Rattle.std.specs.Ordering.{eq_by_cmp}
 use Rattle.std.specs.Cmp.Lexicographic.{pointwise}
 use Rattle.std.specs.List.{IsDistinct, AllByRecursion, list_any}
 use Rattle.std.specs.Map.{keys_of}
-use Rattle.std.specs.FinSet as fin
 use Rattle.std.proofs.Math.Bool.{or-false, and-false, and-true}
 use Rattle.std.proofs.lemmas.Bool.{ne_eqb, eq-eqb, eqb-true, eqb-false}
 use Rattle.std.proofs.lemmas.Cmp.{nat_list_eq_equiv}
@@ -12,12 +11,48 @@ use Rattle.std.proofs.lemmas.Grind.{get_or-set_at}
 use Rattle.std.proofs.lemmas.List.{get_or-set_other}
 use Rattle.std.proofs.lemmas.List.Folds.{list_any-append}
 use Rattle.monitors.specs.declared.tellers.Tellers.{Tellers}
-use Rattle.monitors.specs.MeetMonitor.{told_order, MeetTold, HasTold, with_tell, HearsPart, IsTable}
-use Rattle.monitors.specs.MeetMonitor.{pairs_from, pairs_of, is_among, is_teller, AreTellers}
-use Rattle.monitors.proofs.CountLemmas.{all_told}
+use Rattle.monitors.specs.MeetMonitor.{told_order, MeetTold, HasTold, with_tell, HearsPart, IsTable, pairs_from, pairs_of, is_among, is_teller, AreTellers}
 use Rattle.indexmap.specs.IndexMap.{insert_entry}
-use Rattle.monitors.proofs.NamedLemmas.{same_name, tellers_at, inserted_line, once_still}
-use Rattle.monitors.proofs.ToldOrder.{told_order_total, told_order_tied, told_order_ties, told_again}
+use Rattle.monitors.proofs.NamedLemmas.{same_name, tellers_at, inserted_line, once_still, told_order_total, told_order_tied, told_order_ties, told_again}
+use Rattle.std.specs.FinSet as fin
+
+-- among so many parts, all are told where as many are told as there are parts
+
+-- how many of these are true
+abbrev pub how_many : List Bool → ℕ
+how_many told = length (filter (λ b. b) told)
+
+-- no more are told than the parts
+pub how_many-le : (told : List Bool) (parts : ℕ) → ((part : ℕ) → parts ≤ part → get_or told part false ≡ false) → how_many told ≤ parts
+how_many-le [] parts within = omega arith
+how_many-le (true ∷ told) zero within = absurd (true≢false (within 0 (omega arith)))
+how_many-le (true ∷ told) (suc parts) within = omega (arith, how_many-le told parts (λ part above. within (suc part) (omega arith)))
+how_many-le (false ∷ told) zero within = how_many-le told zero (λ part above. within (suc part) (omega arith))
+how_many-le (false ∷ told) (suc parts) within = omega (arith, how_many-le told parts (λ part above. within (suc part) (omega arith)))
+
+-- as many are told as there are parts exactly where each part is told
+pub all_told : (told : List Bool) (parts : ℕ) → ((part : ℕ) → parts ≤ part → get_or told part false ≡ false) → (how_many told ≡ parts) ↔ ((part : ℕ) → part < parts → get_or told part false ≡ true)
+all_told [] zero within = (λ e part below. absurd (omega arith), λ all. refl)
+all_told [] (suc parts) within = (λ e. absurd (omega arith), λ all. absurd (true≢false (sym (all 0 (omega arith)))))
+all_told (true ∷ told) zero within = absurd (true≢false (within 0 (omega arith)))
+all_told (true ∷ told) (suc parts) within =
+    let rest = all_told told parts (λ part above. within (suc part) (omega arith)) in
+    (each (λ few. rest.0 few), λ all. let few : how_many told ≡ parts = rest.1 (λ part below. all (suc part) (omega arith)) in omega arith)
+  where
+    each : (how_many told ≡ parts → (part : ℕ) → part < parts → get_or told part false ≡ true) → how_many (true ∷ told) ≡ suc parts → (part : ℕ) → part < suc parts → get_or (true ∷ told) part false ≡ true
+    each later e zero below = refl
+    each later e (suc part) below = later (omega arith) part (omega arith)
+all_told (false ∷ told) zero within = (λ e part below. absurd (omega arith), λ all. let few : how_many told ≤ 0 = how_many-le told zero (λ part above. within (suc part) (omega arith)) in omega arith)
+all_told (false ∷ told) (suc parts) within =
+    let few : how_many told ≤ parts = how_many-le told parts (λ part above. within (suc part) (omega arith)) in
+    (λ e. absurd (omega arith), λ all. absurd (true≢false (sym (all 0 (omega arith)))))
+
+-- one more is told
+pub how_many-set : (told : List Bool) (part : ℕ) → part < length told → get_or told part false ≡ false → how_many (set told part true) ≡ how_many told + 1
+how_many-set (true ∷ told) zero below new = absurd (true≢false new)
+how_many-set (true ∷ told) (suc part) below new = let more = how_many-set told part (omega arith) new in omega arith
+how_many-set (false ∷ told) (suc part) below new = how_many-set told part (omega arith) new
+how_many-set _ _ below new = omega arith
 
 -- the pair is one of these
 abbrev stands : ℕ → List ℕ → List (ℕ × List ℕ) → Bool

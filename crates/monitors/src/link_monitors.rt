@@ -8,6 +8,7 @@ use std::marker::Model;
 
 /// What a linked role `A.s.t` was told: the members of its base `A.s`, and the entities that came to it by way of
 /// these, by name or by another key. Contracts see it as the two lists, each in order of telling.
+#[derive(Drop)]
 pub struct LinkMonitor<K: Key = Entity> {
     bases: ToldKeys<K>,
     members: ToldKeys<K>,
@@ -19,16 +20,6 @@ impl<K: Key> Model for LinkMonitor<K> {
     ghost Value = { LinkToldBy K };
 
     ghost view = { λ m. record { bases = m.bases; members = m.members } };
-}
-
-// By hand, so that who holds one drops it by one call, whose proof stands here.
-impl<K: Key> Drop for LinkMonitor<K> {
-    fn drop(self) {
-        let LinkMonitor {
-            bases: _bases,
-            members: _members,
-        } = self;
-    }
 }
 
 impl<K: Key> LinkMonitor<K> {

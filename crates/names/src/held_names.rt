@@ -24,7 +24,7 @@ use std::marker::Model;
 #[derive(Clone, Copy)]
 pub struct Name {
     cells: [u8; 64],
-    len: usize,
+    len: u8,
 }
 
 impl Model for Name {
@@ -50,7 +50,7 @@ impl Name {
             Some(fault) => Err(fault),
             None => Ok(Name {
                 cells: padded(text),
-                len: text.len(),
+                len: text.len() as u8,
             }),
         }
     }
@@ -60,7 +60,7 @@ impl Name {
         ensures value { result.now ≡ self.now }
         ensures name { IsName self.now }
     {
-        &self.cells[..self.len]
+        &self.cells[..usize::from(self.len)]
     }
 }
 

@@ -11,11 +11,11 @@ use Rattle.cred_graph.specs.declared.solutions.Reason.{Reason}
 use Rattle.cred_graph.specs.declared.solutions.Reason.TheVariants as reason
 use Rattle.cred_graph.specs.declared.solutions.Solution.{Solution}
 use Rattle.cred_graph.specs.Graph.{GraphState, IsNode}
-use Rattle.cred_graph.proofs.Lists.{Contains-at_place, place_of_Contains, slice_get_push_cases}
+use Rattle.cred_graph.proofs.NodeListLemmas.{Contains-at_place, place_of_Contains, slice_get_push_cases}
 use Rattle.indexmap.specs.IndexSet.{insert_key}
 use Rattle.indexmap.proofs.SetLemmas.{AllZip-push}
 use Rattle.search.specs.Net.{ByRow}
-use Rattle.search.proofs.Grow.{zip_left, zip_right}
+use Rattle.search.proofs.Kept.{zip_left, zip_right}
 use Rattle.proof_trees.specs.declared.placed_solutions.PlacedSolution.{PlacedSolution}
 use Rattle.proof_trees.specs.declared.steps.Step.{Step}
 use Rattle.proof_trees.specs.declared.steps.Rule.{Rule}

@@ -9,7 +9,7 @@ use Rattle.rt0_rules.specs.Work.{AreDistinct}
 use Rattle.rt0_rules.proofs.Counting.{distinct-le}
 use Rattle.rt0_rules.proofs.Elements.{Contains-none, Contains-first, Contains-later, Contains-cons_cases}
 use Rattle.rt0_rules.proofs.Distinct.{AreDistinct-append}
-use Rattle.cred_graph.proofs.Lists.{Contains-at_place}
+use Rattle.cred_graph.proofs.NodeListLemmas.{Contains-at_place}
 use Rattle.cred_graph.proofs.Lookups.{insert_key-absent}
 
 -- the place that a look-up finds

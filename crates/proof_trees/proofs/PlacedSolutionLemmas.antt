@@ -8,7 +8,7 @@ use Rattle.credential_text.specs.Expr.{part_expr}
 use Rattle.cred_graph.specs.declared.solutions.Reason.{Reason}
 use Rattle.cred_graph.specs.declared.solutions.Reason.TheVariants as reason
 use Rattle.cred_graph.specs.Graph.{GraphState, IsNode, IsSolution, Known, before, Fits, IsGraph}
-use Rattle.cred_graph.proofs.Lists.{Contains-at_place, place_of_Contains}
+use Rattle.cred_graph.proofs.NodeListLemmas.{Contains-at_place, place_of_Contains}
 use Rattle.proof_trees.specs.declared.placed_solutions.PlacedSolution.{PlacedSolution}
 use Rattle.proof_trees.specs.PlacedSolution.{Stands, IsPremiseOf, IsPremise}
 use Rattle.proof_trees.proofs.Taken.{from_front}

@@ -3,7 +3,7 @@ use Rattle.std.proofs.Common.{ℕ, ◌≡◌, sym, subst, refl, List, Option, So
 use Rattle.credential_text.specs.declared.exprs.Expr.TheVariants.{Rol}
 use Rattle.rt0_rules.specs.Asks.{asked_role as asked_itself}
 use Rattle.rt0_rules.specs.FixedPoint.{IsExact}
-use Rattle.cred_graph.proofs.Lists.{Contains-at_place}
+use Rattle.cred_graph.proofs.NodeListLemmas.{Contains-at_place}
 use Rattle.cred_graph.specs.Graph.{IsSolution, IsNode, Known}
 use Rattle.scholten_core.specs.Computation.{Computation}
 use Rattle.search.specs.declared.letters.Load.{Load}

@@ -6,8 +6,8 @@ use Rattle.std.proofs.lemmas.Option.{same_Some, slice_get_within}
 use Rattle.credential_text.specs.declared.exprs.Expr.{Expr}
 use Rattle.rt0_rules.proofs.Elements.{Contains-none, Contains-first, Contains-later, Contains-cons_cases}
 use Rattle.cred_graph.specs.Graph.{GraphState, IsNode}
-use Rattle.cred_graph.proofs.Lists.{place_of_Contains, slice_get_stays, slice_get_push_cases, slice_get_pushed}
-use Rattle.search.proofs.Grow.{zip_right}
+use Rattle.cred_graph.proofs.NodeListLemmas.{place_of_Contains, slice_get_stays, slice_get_push_cases, slice_get_pushed}
+use Rattle.search.proofs.Kept.{zip_right}
 use Rattle.proof_trees.specs.declared.placed_solutions.PlacedSolution.{PlacedSolution}
 use Rattle.proof_trees.specs.declared.steps.Step.{Step}
 use Rattle.proof_trees.specs.declared.steps.Rule.{Rule}

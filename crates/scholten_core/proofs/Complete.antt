@@ -9,11 +9,9 @@ use Rattle.scholten_core.specs.declared.letters.Letter.{Letter}
 use Rattle.scholten_core.specs.Computation.{Computation, StandByNumber, deficit, same_parent, outstanding}
 use Rattle.scholten_core.specs.Step.{started}
 use Rattle.scholten_core.specs.Sound.{IsSound, bare}
-use Rattle.scholten_core.proofs.Engaged.{count-empty}
+use Rattle.scholten_core.proofs.Trees.{count-empty, hit-self, no_root, some_leaf}
 use Rattle.scholten_core.proofs.Lists.{Contains_from_lookup, lookup_from_Contains}
-use Rattle.scholten_core.proofs.Same.{hit-self}
 use Rattle.scholten_core.proofs.Steps.{IsSettledBut, deficit-le-outstanding, settled_sends, sound_settled}
-use Rattle.scholten_core.proofs.Trees.{no_root, some_leaf}
 
 -- the computation before the first letter
 abbrev nothing : {P : Type 0} → Computation P
@@ -45,8 +43,7 @@ module _ {P : Type 0} where
 
 no_signal : (signals : List Parent) → ((p : Parent) → count_by (same_parent p) signals ≡ 0) → length signals ≡ 0
 no_signal [] none = refl
-no_signal (s ∷ ss) none =
-    absurd (omega (arith, none s, hit-self s, sum_by-cons (λ (x : Parent). cond {A = ℕ} (same_parent s x) 1 0) s ss))
+no_signal (s ∷ ss) none = absurd (omega (arith, none s, hit-self s, sum_by-cons (λ (x : Parent). cond {A = ℕ} (same_parent s x) 1 0) s ss))
 
 module _ {P : Type 0} (d : Computation P) (sound : IsSound d) where
   -- where the environment is owed nothing, nobody is

@@ -1,7 +1,6 @@
 -- The fields as a computation
-use Rattle.std.proofs.Common.{◌≡◌, ℕ, zero, suc, ◌+◌, ◌<◌, ◌==◌, Bool, true, not, List, [], ◌∷◌, Option, Some, None, map, IsSomeAnd, IsTrue, option_map, unwrap_or, refl, sym, ap, ◌∙◌, subst, arith, zero-add}
+use Rattle.std.proofs.Common.{◌≡◌, ℕ, zero, suc, ◌+◌, ◌<◌, ◌==◌, Bool, true, not, List, [], ◌∷◌, Option, Some, None, map, IsSomeAnd, IsTrue, option_map, unwrap_or, refl, sym, ap, ◌∙◌, subst, arith, zero-add, cond, ◌++◌, filter, length}
 use Rattle.std.specs.Ordering.{nat_cmp}
-use Rattle.std.specs.FinMap as fin
 use Rattle.std.specs.FinMap.{FinMap}
 use Rattle.std.specs.List.{slice_get}
 use Rattle.std.specs.Map.{lookup}
@@ -9,21 +8,22 @@ use Rattle.scholten_core.specs.declared.parents.Parent.{Parent}
 use Rattle.scholten_core.specs.declared.parents.Parent.TheVariants.{Neutral, Environment, Node}
 use Rattle.scholten_core.specs.declared.letters.Letter.{Letter}
 use Rattle.scholten_core.specs.declared.engagement.Engagement.{Engagement}
-use Rattle.scholten_core.specs.Computation.{deficit, outstanding, same_parent, waiting}
-use Rattle.scholten_core.specs.Step.{mark, marked, started, TakesLetter}
-use Rattle.scholten_core.specs.Kept.{IsKept, engaged_from, engagement_of, held_in, kept, parent_kept}
+use Rattle.scholten_core.specs.Computation.{deficit, outstanding, same_parent, waiting, Computation, letter_of}
+use Rattle.scholten_core.specs.Step.{mark, marked, started, TakesLetter, finishes, numbered, receives, sends, settles}
+use Rattle.scholten_core.specs.Kept.{IsKept, engaged_from, engagement_of, held_in, kept, parent_kept, hit}
 use Rattle.scholten_core.specs.LetterTable.{LetterTableState}
 use Rattle.scholten_core.proofs.Complete.{sound_started}
-use Rattle.scholten_core.proofs.Engaged.{alike, count-empty, get-insert_other, get-insert_same}
+use Rattle.scholten_core.proofs.Trees.{alike, count-empty, get-insert_other, get-insert_same}
 use Rattle.scholten_core.proofs.Lists.{lookup-changed, lookup_from_filter}
-use Rattle.scholten_core.proofs.Steps.{deficit-le-outstanding, deficit-marked, settled_marked, settled_sound, sound_settled}
+use Rattle.scholten_core.proofs.Steps.{deficit-le-outstanding, deficit-marked, settled_marked, settled_sound, sound_settled, delivered, deficit-delivered, deficit-sends, outstanding-delivered, outstanding-sends, received, settled-settles, settled_delivered, settled_sends}
+use Rattle.scholten_core.specs.Sound.{IsSound}
+use Rattle.std.specs.FinMap as fin
 
 -- nobody engaged a node whose place comes before those looked at
 before : (k n : ℕ) (nodes : List (Option Engagement)) → n < k → fin.get (engaged_from k nodes) n ≡ None
 before k n [] less = fin.get-empty nat_cmp n
 before k n (None ∷ nodes) less = before (k + 1) n nodes (omega arith)
-before k n (Some e ∷ nodes) less =
-    get-insert_other _ k e.parent n (λ same. absurd (omega (arith, same))) ∙ before (k + 1) n nodes (omega arith)
+before k n (Some e ∷ nodes) less = get-insert_other _ k e.parent n (λ same. absurd (omega (arith, same))) ∙ before (k + 1) n nodes (omega arith)
 
 -- who engaged a node of the places from k on
 get-engaged_from : (k i n : ℕ) (nodes : List (Option Engagement)) → n ≡ k + i → fin.get (engaged_from k nodes) n ≡ option_map (λ e. e.parent) (engagement_of nodes i)
@@ -58,8 +58,7 @@ module _ {P : Type 0} (root : ℕ) (load : P) (nodes : List (Option Engagement))
 -- a letter is marked in the table
 module _ {P : Type 0} (table after : LetterTableState P) (signals : List Parent) (owed : ℕ) (nodes : List (Option Engagement)) (keeps : IsKept (held_in table signals nodes) owed nodes) (number : ℕ) (held : Bool) (letters : after.letters ≡ map (mark number held) table.letters) (sent : after.sent ≡ table.sent) where
   pub marked_is : held_in after signals nodes ≡ marked (held_in table signals nodes) number held
-  marked_is =
-      λ i. record { sent = sent i; letters = letters i; signals = signals; engaged = engaged_from 0 nodes }
+  marked_is = λ i. record { sent = sent i; letters = letters i; signals = signals; engaged = engaged_from 0 nodes }
 
   pub marked_kept : IsKept (held_in after signals nodes) owed nodes
   marked_kept =
@@ -108,12 +107,7 @@ module _ {P : Type 0} (table after : LetterTableState P) (signals signals_after 
   nobody_engaged = ap (engaged_from 0) empty ∙ sym (fin.empty_of_len (engaged_from 0 nodes) (omega (arith, none)))
 
   pub emptied_is : held_in after signals_after bare ≡ held_in table signals nodes
-  emptied_is = λ i. record {
-    sent = sent i;
-    letters = letters i;
-    signals = signals_are i;
-    engaged = nobody_engaged i;
-  }
+  emptied_is = λ i. record { sent = sent i; letters = letters i; signals = signals_are i; engaged = nobody_engaged i }
 
   pub emptied_kept : IsKept (held_in table signals nodes) owed nodes → IsKept (held_in after signals_after bare) owed bare
   emptied_kept keeps =
@@ -124,3 +118,45 @@ module _ {P : Type 0} (table after : LetterTableState P) (signals signals_after 
       counts Environment = keeps.counts Environment
       counts (Node n) =
           omega (arith, none, deficit-le-outstanding (held_in table signals nodes) (Node n), ap (λ es. unwrap_or (option_map (λ (e : Engagement). e.deficit) (engagement_of es n)) 0) empty)
+
+-- what the whole steps do: a letter is finished, a signal is delivered
+
+-- what a finished letter leaves
+pub record IsFinished {P : Type 0} (d : Computation P) (k : ℕ) (l : Letter P) (outs : List (ℕ × P)) (e : Computation P) : Type 0 where
+  pub sound : IsSound e
+  pub letters : e.letters ≡ filter (λ x. not (x.0 == k)) d.letters ++ numbered (Node l.to) (d.sent + 1) outs
+  pub sent : e.sent ≡ d.sent + length outs
+  pub amount : outstanding e ≡ outstanding d + length outs
+  pub deficits : (p : Parent) → deficit e p ≡ deficit d p + cond (same_parent p (Node l.to)) (length outs) 0
+
+pub is_finished : {P : Type 0} (d : Computation P) (k : ℕ) (l : Letter P) (outs : List (ℕ × P)) → IsSound d → letter_of d k ≡ Some l → IsFinished d k l outs (finishes d k l outs)
+is_finished d k l outs sound found =
+    let got = received d k l (settled_sound d sound) found in
+    let to = Node l.to in
+    let after = settled-settles (sends (receives d k l) to outs) to (settled_sends (receives d k l) to outs got.active to got.settled) in
+    record {
+      sound = sound_settled _ after.settled;
+      letters = after.letters ∙ (λ i. got.letters i ++ numbered to (got.owed.sent i + 1) outs);
+      sent = after.owed.sent ∙ ap (λ n. n + length outs) got.owed.sent;
+      amount = omega (arith, after.owed.amount, outstanding-sends (receives d k l) to outs, got.owed.amount);
+      deficits = λ p. omega (arith, after.owed.deficits p, deficit-sends (receives d k l) to outs p, got.owed.deficits p);
+    }
+
+-- what a delivered signal leaves
+pub record IsDelivered {P : Type 0} (d : Computation P) (to : Parent) (e : Computation P) : Type 0 where
+  pub sound : IsSound e
+  pub letters : e.letters ≡ d.letters
+  pub sent : e.sent ≡ d.sent
+  pub amount : outstanding e + 1 ≡ outstanding d
+  pub deficits : (p : Parent) → deficit e p + hit p to ≡ deficit d p
+
+pub is_delivered : {P : Type 0} (d : Computation P) (place : ℕ) (to : Parent) (at : slice_get d.signals place ≡ Some to) → IsSound d → IsDelivered d to (settles (delivered d place to at) to)
+is_delivered d place to at sound =
+    let after = settled-settles (delivered d place to at) to (settled_delivered d place to at (settled_sound d sound)) in
+    record {
+      sound = sound_settled _ after.settled;
+      letters = after.letters;
+      sent = after.owed.sent;
+      amount = omega (arith, after.owed.amount, outstanding-delivered d place to at);
+      deficits = λ p. omega (arith, after.owed.deficits p, deficit-delivered d place to at p);
+    }

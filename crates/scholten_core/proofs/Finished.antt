@@ -13,13 +13,10 @@ use Rattle.scholten_core.specs.Computation.{Computation, deficit, outstanding}
 use Rattle.scholten_core.specs.Step.{finishes, numbered, receives, sends, settles, FinishesLetter}
 use Rattle.scholten_core.specs.Kept.{IsKept, Receives, engagement_of, engaged_from, held_in, kept, parent_kept}
 use Rattle.scholten_core.specs.LetterTable.{LetterTableState}
-use Rattle.scholten_core.proofs.Engaged.{get-insert_same, get-insert_other, one_or_other, remove-insert}
-use Rattle.scholten_core.proofs.Fields.{engagements_are, get-engagements}
-use Rattle.scholten_core.proofs.Paid.{count_of}
-use Rattle.scholten_core.proofs.Paid.{deficit_kept}
-use Rattle.scholten_core.proofs.Same.{same_parent-self}
+use Rattle.scholten_core.proofs.Trees.{get-insert_same, get-insert_other, one_or_other, remove-insert, same_parent-self}
+use Rattle.scholten_core.proofs.Fields.{engagements_are, get-engagements, is_finished}
+use Rattle.scholten_core.proofs.Delivered.{count_of, deficit_kept}
 use Rattle.scholten_core.proofs.Steps.{IsReceived, acknowledged, deficit-sends, engages, received, rest, settles_is, settles_under, settled_sound}
-use Rattle.scholten_core.proofs.Whole.{is_finished}
 
 module _ {P : Type 0} (e : Computation P) (n : ℕ) where
   stays_under : 0 < deficit e (Node n) → (o : Option Parent) → settles_under e n o ≡ e
@@ -87,8 +84,7 @@ module _ {P : Type 0} (table : LetterTableState P) (signals : List Parent) (owed
 
   module _ (gone : engagement_of nodes l.to ≡ None) where
     engages_it : receives before number l ≡ engages before number l
-    engages_it =
-        ap (λ b. cond b (acknowledged before number l) (engages before number l)) (engaged_before None gone)
+    engages_it = ap (λ b. cond b (acknowledged before number l) (engages before number l)) (engaged_before None gone)
 
     parent_gone : fin.get (engaged_from 0 nodes) l.to ≡ None
     parent_gone = get-engagements nodes l.to ∙ ap (option_map (λ (x : Engagement). x.parent)) gone
@@ -148,10 +144,8 @@ module _ {P : Type 0} (table : LetterTableState P) (signals : List Parent) (owed
     where
       counts_after : (p : Parent) → kept owed nodes_after p ≡ deficit (finishes before number l outs) p
       counts_after Neutral = sym ((is_finished before number l outs keeps.sound found).sound.idle Neutral refl)
-      counts_after Environment =
-          omega (arith, keeps.counts Environment, (is_finished before number l outs keeps.sound found).deficits Environment)
-      counts_after (Node n) =
-          omega (arith, count_after n, keeps.counts (Node n), (is_finished before number l outs keeps.sound found).deficits (Node n))
+      counts_after Environment = omega (arith, keeps.counts Environment, (is_finished before number l outs keeps.sound found).deficits Environment)
+      counts_after (Node n) = omega (arith, count_after n, keeps.counts (Node n), (is_finished before number l outs keeps.sound found).deficits (Node n))
 
   -- the fields hold the computation with the letter finished
   pub finished_fields : (table_now : LetterTableState P) → table_now.letters ≡ rest before number l ++ numbered (Node l.to) (table.sent + 1) outs → table_now.sent ≡ table.sent + length outs → (signals_now : List Parent) → signals_now ≡ signals ++ option_to_list by → IsFinishedIn before number outs (held_in table_now signals_now nodes_after) owed nodes_after
@@ -164,13 +158,6 @@ module _ {P : Type 0} (table : LetterTableState P) (signals : List Parent) (owed
       }) ∙ sym finished_is in
       let done = is_finished before number l outs keeps.sound found in
       record {
-        step = record {
-          letter = l;
-          found = found;
-          finished = is;
-          letters = letters_are;
-          sent = sent_is;
-          more = ap outstanding is ∙ done.amount;
-        };
+        step = record { letter = l; found = found; finished = is; letters = letters_are; sent = sent_is; more = ap outstanding is ∙ done.amount };
         kept = subst (λ d. IsKept d owed nodes_after) (sym is) finished_kept;
       }

@@ -1,15 +1,9 @@
 pub mod Complete
-pub mod Counts
 pub mod Delivered
-pub mod Engaged
 pub mod Fields
 pub mod Finished
 pub mod Lists
-pub mod Paid
-pub mod Same
-pub mod Sent
 pub mod Standing
 pub mod Steps
 pub mod Tables
 pub mod Trees
-pub mod Whole

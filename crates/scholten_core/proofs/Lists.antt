@@ -1,5 +1,5 @@
 -- Lists of letters, whose numbers rise
-use Rattle.std.proofs.Common.{◌≡◌, ℕ, zero, suc, ◌+◌, ◌<◌, ◌≤◌, ◌==◌, Bool, true, false, cond, not, List, [], ◌∷◌, ◌++◌, Contains, Some, None, map, option_map, filter, length, remove, sum_by, refl, sym, ap, ◌∙◌, arith, lt-ltb, eq-eqb, ne_eqb}
+use Rattle.std.proofs.Common.{◌≡◌, ℕ, zero, suc, ◌+◌, ◌<◌, ◌≤◌, ◌==◌, Bool, true, false, cond, not, List, [], ◌∷◌, ◌++◌, Contains, Some, None, map, option_map, filter, length, remove, sum_by, refl, sym, ap, ◌∙◌, arith, lt-ltb, eq-eqb, ne_eqb, count_by}
 use Rattle.std.specs.List.{find, slice_get, position, position_or_len}
 use Rattle.std.specs.Map.{lookup}
 use Rattle.std.proofs.lemmas.Option.{same_Some, none-some, slice_get_within, slice_get-get_or, get_or_from_slice_get}
@@ -8,6 +8,10 @@ use Rattle.std.proofs.lemmas.List.Edits.{length-remove}
 use Rattle.std.proofs.lemmas.List.Sums.{sum_by-cons, sum_by-remove}
 use Rattle.std.proofs.lemmas.Map.Views.{exact_unsigned_eq}
 use Rattle.scholten_core.specs.Sound.{IsNumbered}
+use Rattle.scholten_core.specs.declared.parents.Parent.{Parent}
+use Rattle.scholten_core.specs.declared.letters.Letter.{Letter}
+use Rattle.scholten_core.specs.Computation.{same_parent}
+use Rattle.scholten_core.specs.Step.{numbered}
 
 -- the entry with f of its value, where its number is that one
 abbrev pub changed : {X : Type 0} → ℕ → (X → X) → ℕ × X → ℕ × X
@@ -58,8 +62,7 @@ module _ {X : Type 0} where
   pub number_at : (low : ℕ) (ls : List (ℕ × X)) (high i k : ℕ) (x : X) → IsNumbered low ls high → slice_get ls i ≡ Some (k, x) → low < k
   number_at low [] high i k x rising at = absurd (none-some _ at)
   number_at low (l ∷ ls) high zero k x rising at = omega (arith, rising.0, ap (λ e. e.0) (same_Some _ _ at))
-  number_at low (l ∷ ls) high (suc i) k x rising at =
-      omega (arith, rising.0, number_at l.0 ls high i k x rising.1 at)
+  number_at low (l ∷ ls) high (suc i) k x rising at = omega (arith, rising.0, number_at l.0 ls high i k x rising.1 at)
 
   -- to leave a number out is to remove at its place
   pub filter-remove : (low : ℕ) (ls : List (ℕ × X)) (high i k : ℕ) (x : X) → IsNumbered low ls high → slice_get ls i ≡ Some (k, x) → filter (λ l. not (l.0 == k)) ls ≡ remove ls i
@@ -109,8 +112,7 @@ module _ {X : Type 0} where
 
   -- an entry is the one of its number
   pub lookup_from_Contains : (low : ℕ) (ls : List (ℕ × X)) (high k : ℕ) (x : X) → IsNumbered low ls high → Contains ls (k, x) → lookup (λ n. n == k) ls ≡ Some x
-  lookup_from_Contains low ls high k x rising (i, within, is) =
-      lookup_at low ls high i k x rising (slice_get-get_or ls i (k, x) within ∙ ap Some is)
+  lookup_from_Contains low ls high k x rising (i, within, is) = lookup_at low ls high i k x rising (slice_get-get_or ls i (k, x) within ∙ ap Some is)
 
 -- the entry of a number, where entries of that number are changed
 pub lookup-changed : {X : Type 0} (k : ℕ) (f : X → X) (ls : List (ℕ × X)) → lookup (λ n. n == k) (map (changed k f) ls) ≡ option_map f (lookup (λ n. n == k) ls)
@@ -153,8 +155,7 @@ lookup_from_filter p low ls high i k x rising at =
 
 -- what a removal takes from a sum
 pub sum_by-remove_at : {X : Type 0} (f : X → ℕ) (xs : List X) (i : ℕ) (x : X) → slice_get xs i ≡ Some x → sum_by f (remove xs i) + f x ≡ sum_by f xs
-sum_by-remove_at f xs i x at =
-    rw (← get_or_from_slice_get xs i x x at) (sum_by-remove f xs i x (slice_get_within xs i x at))
+sum_by-remove_at f xs i x at = rw (← get_or_from_slice_get xs i x x at) (sum_by-remove f xs i x (slice_get_within xs i x at))
 
 -- what leaving a number out takes from a sum, and from the length
 module _ {X : Type 0} (low : ℕ) (ls : List (ℕ × X)) (high k : ℕ) (x : X) (rising : IsNumbered low ls high) (found : lookup (λ n. n == k) ls ≡ Some x) where
@@ -171,5 +172,25 @@ module _ {X : Type 0} (low : ℕ) (ls : List (ℕ × X)) (high k : ℕ) (x : X) 
 -- a sum over changed entries, where the terms stay
 pub sum_by-map_same : {X : Type 0} (f : X → ℕ) (g : X → X) → ((x : X) → f (g x) ≡ f x) → (xs : List X) → sum_by f (map g xs) ≡ sum_by f xs
 sum_by-map_same f g same [] = refl
-sum_by-map_same f g same (x ∷ xs) =
-    omega (arith, sum_by-cons f (g x) (map g xs), sum_by-cons f x xs, same x, sum_by-map_same f g same xs)
+sum_by-map_same f g same (x ∷ xs) = omega (arith, sum_by-cons f (g x) (map g xs), sum_by-cons f x xs, same x, sum_by-map_same f g same xs)
+
+-- the letters that one sends together
+
+module _ {P : Type 0} (from : Parent) where
+  pub length-numbered : (k : ℕ) (outs : List (ℕ × P)) → length (numbered from k outs) ≡ length outs
+  length-numbered k [] = refl
+  length-numbered k (o ∷ outs) = ap suc (length-numbered (k + 1) outs)
+
+  -- they rise from the last number on
+  pub numbered_rise : (k : ℕ) (outs : List (ℕ × P)) → IsNumbered k (numbered from (k + 1) outs) (k + length outs)
+  numbered_rise k [] = omega arith
+  numbered_rise k (o ∷ outs) = (omega arith, numbered_below (k + 1) _ _ (numbered_rise (k + 1) outs) _ (omega arith))
+
+  -- each is from that one
+  pub count-numbered : (p : Parent) (k : ℕ) (outs : List (ℕ × P)) → count_by (λ l. same_parent p l.1.from) (numbered from k outs) ≡ cond (same_parent p from) (length outs) 0
+  count-numbered p k [] = elim (same_parent p from) as (λ b. ◌≡◌ {A = ℕ} 0 (cond b 0 0)) [ true ↦ refl | false ↦ refl ]
+  count-numbered p k (o ∷ outs) =
+      let first = sum_by-cons (λ (l : ℕ × Letter P). cond {A = ℕ} (same_parent p l.1.from) 1 0) (k, record { from = from; to = o.0; held = false; load = o.1 }) (numbered from (k + 1) outs) in
+      let rest = count-numbered p (k + 1) outs in
+      let joined : cond {A = ℕ} (same_parent p from) 1 0 + cond (same_parent p from) (length outs) 0 ≡ cond (same_parent p from) (suc (length outs)) 0 = elim (same_parent p from) as (λ b. cond {A = ℕ} b 1 0 + cond b (length outs) 0 ≡ cond b (suc (length outs)) 0) [ true ↦ omega arith | false ↦ refl ] in
+      omega (arith, first, rest, joined)

@@ -16,11 +16,8 @@ use Rattle.scholten_core.specs.Computation.{Computation, deficit, same_parent, l
 use Rattle.scholten_core.specs.Step.{marked, numbered, receives, sends, settles}
 use Rattle.scholten_core.specs.Sound.{IsNumbered, IsSound, IsTree, grown, is_active}
 use Rattle.scholten_core.specs.Kept.{hit}
-use Rattle.scholten_core.proofs.Engaged.{count-insert, count-remove, count-le-len, get-insert_same, get-insert_other, get-remove_same, get-remove_other, len-insert_new, len-remove_old, one_or_other}
-use Rattle.scholten_core.proofs.Lists.{changed, length-filter_number, numbered-append, numbered-changed, numbered-filter, sum_by-filter_number, sum_by-map_same, sum_by-remove_at}
-use Rattle.scholten_core.proofs.Same.{hit-self, hit-other, same_parent-other, same_parent-self, same_true}
-use Rattle.scholten_core.proofs.Sent.{count-numbered, length-numbered, numbered_rise}
-use Rattle.scholten_core.proofs.Trees.{active-insert, active-remove, none_there, tree_remove}
+use Rattle.scholten_core.proofs.Trees.{count-insert, count-remove, count-le-len, get-insert_same, get-insert_other, get-remove_same, get-remove_other, len-insert_new, len-remove_old, one_or_other, hit-self, hit-other, same_parent-other, same_parent-self, same_true, active-insert, active-remove, none_there, tree_remove}
+use Rattle.scholten_core.proofs.Lists.{changed, length-filter_number, numbered-append, numbered-changed, numbered-filter, sum_by-filter_number, sum_by-map_same, sum_by-remove_at, count-numbered, length-numbered, numbered_rise}
 
 -- the same as that it is sound, but that the engaged node x may be owed nothing
 pub record IsSettledBut {P : Type 0} (d : Computation P) (x : Parent) : Type 0 where
@@ -32,13 +29,7 @@ pub record IsSettledBut {P : Type 0} (d : Computation P) (x : Parent) : Type 0 w
 
 module _ {P : Type 0} (d : Computation P) where
   pub settled_sound : IsSound d → IsSettledBut d Neutral
-  settled_sound is = record {
-    busy = λ n apart there. is.busy n there;
-    idle = is.idle;
-    tree = is.tree;
-    numbers = is.numbers;
-    one_each = is.one_each;
-  }
+  settled_sound is = record { busy = λ n apart there. is.busy n there; idle = is.idle; tree = is.tree; numbers = is.numbers; one_each = is.one_each }
 
   pub sound_settled : IsSettledBut d Neutral → IsSound d
   sound_settled settled = record {
@@ -85,8 +76,7 @@ module _ {P : Type 0} (d : Computation P) (place : ℕ) (to : Parent) (at : slic
   delivered = record d { signals = remove d.signals place }
 
   pub deficit-delivered : (p : Parent) → deficit delivered p + hit p to ≡ deficit d p
-  deficit-delivered p =
-      omega (arith, sum_by-remove_at (λ q. cond {A = ℕ} (same_parent p q) 1 0) d.signals place to at)
+  deficit-delivered p = omega (arith, sum_by-remove_at (λ q. cond {A = ℕ} (same_parent p q) 1 0) d.signals place to at)
 
   pub outstanding-delivered : outstanding delivered + 1 ≡ outstanding d
   outstanding-delivered = omega (arith, length-remove d.signals place (slice_get_within d.signals place to at))
@@ -127,8 +117,7 @@ module _ {P : Type 0} (d : Computation P) (k : ℕ) (l : Letter P) where
 
   module _ (settled : IsSettledBut d Neutral) (found : letter_of d k ≡ Some l) where
     letters_owed : (p : Parent) → count_by (λ (x : ℕ × Letter P). same_parent p x.1.from) rest + hit p l.from ≡ count_by (λ x. same_parent p x.1.from) d.letters
-    letters_owed p =
-        sum_by-filter_number 0 d.letters d.sent k l settled.numbers found (λ x. cond {A = ℕ} (same_parent p x.1.from) 1 0)
+    letters_owed p = sum_by-filter_number 0 d.letters d.sent k l settled.numbers found (λ x. cond {A = ℕ} (same_parent p x.1.from) 1 0)
 
     letters_left : length rest + 1 ≡ length d.letters
     letters_left = length-filter_number 0 d.letters d.sent k l settled.numbers found
@@ -201,8 +190,7 @@ module _ {P : Type 0} (d : Computation P) (from : Parent) (outs : List (ℕ × P
       omega (arith, sum_by-append (λ (l : ℕ × Letter P). cond {A = ℕ} (same_parent p l.1.from) 1 0) d.letters (numbered from (d.sent + 1) outs), count-numbered from p (d.sent + 1) outs)
 
   pub outstanding-sends : outstanding (sends d from outs) ≡ outstanding d + length outs
-  outstanding-sends =
-      omega (arith, length-append d.letters (numbered from (d.sent + 1) outs), length-numbered from (d.sent + 1) outs)
+  outstanding-sends = omega (arith, length-append d.letters (numbered from (d.sent + 1) outs), length-numbered from (d.sent + 1) outs)
 
   pub settled_sends : is_active d.engaged from ≡ true → (x : Parent) → IsSettledBut d x → IsSettledBut (sends d from outs) x
   settled_sends active x settled = record {
@@ -223,11 +211,7 @@ pub record IsSettled {P : Type 0} (d e : Computation P) : Type 0 where
 
 -- where nothing is to be done
 unsettled : {P : Type 0} (d : Computation P) → IsSettledBut d Neutral → IsSettled d d
-unsettled d settled = record {
-  owed = record { deficits = λ p. refl; amount = refl; sent = refl };
-  letters = refl;
-  settled = settled;
-}
+unsettled d settled = record { owed = record { deficits = λ p. refl; amount = refl; sent = refl }; letters = refl; settled = settled }
 
 -- an engaged node that is owed nothing is let go
 module _ {P : Type 0} (d : Computation P) (n : ℕ) (by : Parent) (settled : IsSettledBut d (Node n)) (engaged : fin.get d.engaged n ≡ Some by) where
@@ -268,8 +252,7 @@ module _ {P : Type 0} (d : Computation P) (n : ℕ) (by : Parent) (settled : IsS
 -- a node settles, where that one engaged it
 abbrev pub settles_under : {P : Type 0} → Computation P → ℕ → Option Parent → Computation P
 settles_under d n None = d
-settles_under d n (Some by) =
-    if deficit d (Node n) == 0 then record d { signals = d.signals ++ by ∷ []; engaged = fin.remove d.engaged n } else d
+settles_under d n (Some by) = if deficit d (Node n) == 0 then record d { signals = d.signals ++ by ∷ []; engaged = fin.remove d.engaged n } else d
 
 module _ {P : Type 0} (d : Computation P) (n : ℕ) where
   engaged_by : (o : Option Parent) → (if is_some o && (deficit d (Node n) == 0) then record d { signals = d.signals ++ unwrap_or o Neutral ∷ []; engaged = fin.remove d.engaged n } else d) ≡ settles_under d n o
@@ -293,8 +276,7 @@ module _ {P : Type 0} (d : Computation P) where
       })
 
   settled-settles_under : (n : ℕ) → IsSettledBut d (Node n) → (o : Option Parent) → fin.get d.engaged n ≡ o → IsSettled d (settles_under d n o)
-  settled-settles_under n settled None gone =
-      all_busy (Node n) settled (λ m there. settled.busy m (λ e. cc) there)
+  settled-settles_under n settled None gone = all_busy (Node n) settled (λ m there. settled.busy m (λ e. cc) there)
   settled-settles_under n settled (Some by) engaged =
       elim (deficit d (Node n) == 0) as (λ b. (deficit d (Node n) == 0) ≡ b → IsSettled d (cond b (let_go d n by settled engaged) d)) [
         | true ↦ λ nothing. settled-let_go d n by settled engaged (exact_unsigned_eq (deficit d (Node n)) 0 nothing)
@@ -305,6 +287,5 @@ module _ {P : Type 0} (d : Computation P) where
 
   pub settled-settles : (x : Parent) → IsSettledBut d x → IsSettled d (settles d x)
   settled-settles Neutral settled = unsettled d settled
-  settled-settles Environment settled =
-      all_busy Environment settled (λ n there. settled.busy n (λ e. cc) there)
+  settled-settles Environment settled = all_busy Environment settled (λ n there. settled.busy n (λ e. cc) there)
   settled-settles (Node n) settled = subst (IsSettled d) (sym (settles_is d n)) (settled-settles_under n settled (fin.get d.engaged n) refl)

@@ -7,14 +7,12 @@ use Rattle.std.proofs.lemmas.Option.{slice_get_within}
 use Rattle.scholten_core.specs.declared.letters.Letter.{Letter}
 use Rattle.scholten_core.specs.Sound.{IsNumbered}
 use Rattle.scholten_core.specs.LetterTable.{set_value_at, IsTable, count, does_wait, standing}
-use Rattle.scholten_core.proofs.Counts.{one, count-append, count-le-length, count-set, count-take, count-take-le, count-take-pop, count-take-same, count-take-set, count-take-suc, either_way, holes-full, take-set_value, waits-full, waits_full}
+use Rattle.scholten_core.proofs.Standing.{one, count-append, count-le-length, count-set, count-take, count-take-le, count-take-pop, count-take-same, count-take-set, count-take-suc, either_way, holes-full, take-set_value, waits-full, waits_full, length-numbered_le, length-set_value, numbered-front, numbered-set_value, standing-append}
 use Rattle.scholten_core.proofs.Lists.{numbered-append, numbered-filter}
-use Rattle.scholten_core.proofs.Standing.{length-numbered_le, length-set_value, numbered-front, numbered-set_value, standing-append}
 
 module _ {P : Type 0} (sent waits holes first last : ℕ) (es : List (ℕ × Option (Letter P))) (is : IsTable sent waits holes first last es) where
   pub waits-le-sent : waits ≤ sent
-  waits-le-sent =
-      omega (arith, is.waiting, count-le-length does_wait es, length-numbered_le 0 es sent is.numbers)
+  waits-le-sent = omega (arith, is.waiting, count-le-length does_wait es, length-numbered_le 0 es sent is.numbers)
 
   pub holes-le-length : holes ≤ length es
   holes-le-length = omega (arith, is.gone, count-le-length is_none es)
@@ -152,12 +150,10 @@ module _ {P : Type 0} (sent waits holes first last : ℕ) (es : List (ℕ × Opt
 -- the last entry, a hole, is popped
 module _ {P : Type 0} (es front : List (ℕ × Option (Letter P))) (k : ℕ) (is : es ≡ front ++ (k, None) ∷ []) where
   pub standing-popped : standing front ≡ standing es
-  standing-popped =
-      sym (ap standing is ∙ standing-append front ((k, None) ∷ []) ∙ append-nil (standing front))
+  standing-popped = sym (ap standing is ∙ standing-append front ((k, None) ∷ []) ∙ append-nil (standing front))
 
   pub numbered-popped : (sent : ℕ) → IsNumbered 0 es sent → IsNumbered 0 front sent
-  numbered-popped sent numbers =
-      numbered-front 0 front ((k, None) ∷ []) sent (subst (λ xs. IsNumbered 0 xs sent) is numbers)
+  numbered-popped sent numbers = numbered-front 0 front ((k, None) ∷ []) sent (subst (λ xs. IsNumbered 0 xs sent) is numbers)
 
   pub waits-popped : count does_wait es ≡ count does_wait front
   waits-popped = omega (arith, ap (count does_wait) is, count-append does_wait front ((k, None) ∷ []))
@@ -166,8 +162,7 @@ module _ {P : Type 0} (es front : List (ℕ × Option (Letter P))) (k : ℕ) (is
   holes-popped = omega (arith, ap (count is_none) is, count-append is_none front ((k, None) ∷ []))
 
   pub take-popped : (n : ℕ) → count does_wait (take n front) ≡ count does_wait (take n es)
-  take-popped n =
-      count-take-pop does_wait n front (k, None) refl ∙ ap (λ xs. count does_wait (take n xs)) (sym is)
+  take-popped n = count-take-pop does_wait n front (k, None) refl ∙ ap (λ xs. count does_wait (take n xs)) (sym is)
 
 -- the ends are cut to the length
 pub cut_ends : {P : Type 0} (sent waits holes first last : ℕ) (es : List (ℕ × Option (Letter P))) → IsNumbered 0 es sent → waits ≡ count does_wait es → holes ≡ count is_none es → count does_wait (take first es) ≡ 0 → count does_wait (take last es) ≡ waits → IsTable sent waits holes (min first (length es)) (min last (length es)) es

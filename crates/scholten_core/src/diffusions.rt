@@ -62,13 +62,7 @@ impl<P: Drop> Diffusion<P> {
         ensures sound { IfOk result IsSound }
     {
         let mut letters = LetterTable::new(alloc)?;
-        let first = Letter {
-            from: Parent::Environment,
-            to: root,
-            held: false,
-            load,
-        };
-        letters.push(first);
+        letters.push(Parent::Environment, root, load);
         Ok(Diffusion {
             letters,
             signals: VecDeque::new(alloc),
@@ -89,13 +83,7 @@ impl<P: Drop> Diffusion<P> {
         self.signals.clear();
         self.nodes.clear();
         self.environment = 1;
-        let first = Letter {
-            from: Parent::Environment,
-            to: root,
-            held: false,
-            load,
-        };
-        self.letters.push(first);
+        self.letters.push(Parent::Environment, root, load);
         Ok(())
     }
 
@@ -180,7 +168,8 @@ impl<P: Drop> Diffusion<P> {
         self.signals.reserve(1)?;
         let at = self.letters.place(number);
         let letter = self.letters.letter_there(at);
-        let (from, to) = (letter.from, letter.to);
+        let from = letter.from;
+        let to = letter.to;
         let by = receive(&mut self.nodes, from, to, outs.len() as u64)?;
         put(&mut self.signals, by);
         self.letters.finish(at);

@@ -133,24 +133,6 @@ fn place_by_halving<P>(letters: &Numbered<P>, number: u64) -> Option<usize>
     }
 }
 
-// The letter at a place, if it isn't a hole.
-#[inline(always)]
-fn letter_at<P>(letters: &Numbered<P>, at: usize) -> Option<&Letter<P>>
-    requires { at < length letters.now.items }
-    ensures { slice_get (values_of letters.now.items) at ≡ Some (option_copied result) }
-{
-    letters[at].1.letter()
-}
-
-// The letter at a place that is no hole.
-#[inline(always)]
-fn letter_there<P>(letters: &Numbered<P>, at: usize) -> &Letter<P>
-    requires { (l : Letter P) × (slice_get (values_of letters.now.items) at ≡ Some (Some l)) }
-    ensures { slice_get (values_of letters.now.items) at ≡ Some (Some result.now) }
-{
-    letters[at].1.full_letter()
-}
-
 // The letter at a place is held from now on, or waits again. Answers its number.
 #[inline(always)]
 fn hold<P>(letters: &mut Numbered<P>, at: usize, held: bool) -> u64
@@ -248,7 +230,7 @@ impl<P> Model for LetterTable<P> {
 }
 
 impl<P: Drop> LetterTable<P> {
-    ghost use Rattle.std.specs.Prelude.{◌≡◌, ◌+◌, ◌^◌, ◌<◌, ◌≤◌, ◌==◌, ◌++◌, [], ◌∷◌, true, false, not, length, filter, map, min};
+    ghost use Rattle.std.specs.Prelude.{◌≡◌, ◌+◌, ◌^◌, ◌<◌, ◌≤◌, ◌==◌, ◌++◌, [], ◌∷◌, true, false, not, length, filter, map};
     ghost use Rattle.std.specs.Prelude.{ℕ, is_some, option_copied, IfOk, IfSome, None, Some, OnOk};
     ghost use Rattle.std.specs.VecDeque.{deque_len};
     ghost use Rattle.std.specs.Map.{lookup};
@@ -279,7 +261,7 @@ impl<P: Drop> LetterTable<P> {
     pub(crate) fn restart(&mut self)
         ensures sent { self.new.sent ≡ 0 }
         ensures letters { self.new.letters ≡ [] }
-        ensures room { min 1 self.old.room ≤ self.new.room }
+        ensures room { 0 < self.old.room → 0 < self.new.room }
     {
         let kept = room_kept(self.sent, self.letters.capacity());
         self.letters.clear();
@@ -330,17 +312,8 @@ impl<P: Drop> LetterTable<P> {
     pub(crate) fn get(&self, number: u64) -> Option<&Letter<P>>
         ensures { option_copied result ≡ lookup (λ n. n == number) self.now.letters }
     {
-        let at = self.find(number)?;
-        self.letter_at(at)
-    }
-
-    /// Where the number stands. It does where its letter waits or is held.
-    #[inline(always)]
-    pub(crate) fn find(&self, number: u64) -> Option<usize>
-        ensures found { IfSome result (StandsAt self.now number) }
-        ensures none { result ≡ None → lookup (λ n. n == number) self.now.letters ≡ None }
-    {
-        place_of(&self.letters, self.hand, number)
+        let at = place_of(&self.letters, self.hand, number)?;
+        self.letters[at].1.letter()
     }
 
     /// Where the number of a held letter stands.
@@ -355,22 +328,13 @@ impl<P: Drop> LetterTable<P> {
         place_near(&self.letters, self.hand, number).unwrap()
     }
 
-    /// The letter whose number stands there, where it waits or is held.
-    #[inline(always)]
-    pub(crate) fn letter_at(&self, at: usize) -> Option<&Letter<P>>
-        requires { at < length self.now.numbers }
-        ensures { (number : ℕ) → StandsAt self.now number at → option_copied result ≡ lookup (λ n. n == number) self.now.letters }
-    {
-        letter_at(&self.letters, at)
-    }
-
     /// The letter that waits or is held and whose number stands there.
     #[inline(always)]
     pub(crate) fn letter_there(&self, at: usize) -> &Letter<P>
         requires { (number : ℕ) × StandsAt self.now number at × (is_some (lookup (λ n. n == number) self.now.letters) ≡ true) }
         ensures { (number : ℕ) → StandsAt self.now number at → lookup (λ n. n == number) self.now.letters ≡ Some result.now }
     {
-        letter_there(&self.letters, at)
+        self.letters[at].1.full_letter()
     }
 
     /// Takes the waiting letter at that place, in order of number, and answers its number, and where that stands.
@@ -444,28 +408,29 @@ impl<P: Drop> LetterTable<P> {
         ensures emptied { outs.new.items ≡ [] }
     {
         while let Some((to, load)) = outs.pop_front() {
-            self.push(Letter {
-                from,
-                to,
-                held: false,
-                load,
-            });
+            self.push(from, to, load);
         }
     }
 
     /// Sends a letter that waits, where there is room for it.
     #[inline(always)]
-    pub(crate) fn push(&mut self, letter: Letter<P>)
+    pub(crate) fn push(&mut self, from: Parent, to: u64, load: P)
         requires room { 0 < self.old.room }
         requires numbers { self.old.sent + 1 < 2 ^ 64 }
-        requires waits { letter.held ≡ false }
-        requires from { same_parent letter.from Parent.Neutral ≡ false }
-        ensures letters { self.new.letters ≡ self.old.letters ++ (self.old.sent + 1, letter) ∷ [] }
+        requires from { same_parent from Parent.Neutral ≡ false }
+        ensures letters { self.new.letters
+            ≡ self.old.letters ++ (self.old.sent + 1, record { from = from; to = to; held = false; load = load }) ∷ [] }
         ensures sent { self.new.sent ≡ self.old.sent + 1 }
         ensures room { self.old.room ≤ self.new.room + 1 }
     {
         self.sent += 1;
         self.waits += 1;
+        let letter = Letter {
+            from,
+            to,
+            held: false,
+            load,
+        };
         self.letters.push_reserved((self.sent, Slot::full(letter)));
         self.last = self.letters.len();
     }

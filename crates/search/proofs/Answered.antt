@@ -1,11 +1,11 @@
 -- Whether the entity that is asked about was found, and whether a search has come to anything.
-use Rattle.std.proofs.Common.{ℕ, ◌<◌, ◌↔◌, ◌≡◌, ◌∙◌, inl, inr, sym, subst, ap, Bool, true, cond, IsTrue, not, List, [], ◌∷◌, Some, length, filter, slice_get, ◌==◌, eq-eqb, ne_eqb, arith, refl, false}
-use Rattle.std.specs.List.{list_any, Contains}
+use Rattle.std.proofs.Common.{ℕ, ◌<◌, ◌↔◌, ◌≡◌, ◌∙◌, inl, inr, sym, subst, ap, Bool, true, cond, IsTrue, not, List, [], ◌∷◌, Some, length, filter, slice_get, ◌==◌, eq-eqb, ne_eqb, arith, refl, false, ◌+◌, add-one, ◌++◌, take}
+use Rattle.std.specs.List.{list_any, Contains, AllByRecursion, IsDistinct, dedup, dedup_from}
 use Rattle.std.specs.Map.{lookup}
 use Rattle.std.proofs.lemmas.Bool.{cases_Bool, cases_eq, false≢true}
 use Rattle.names.specs.declared.roles.Role.{Role}
 use Rattle.names.specs.Name.{is_same, name_order}
-use Rattle.names.proofs.SameNames.{is_same_tied}
+use Rattle.names.proofs.SameNames.{is_same_tied, same_from_is_same}
 use Rattle.vaults.proofs.Elements.{has, has_iff, has-in_order, sorted-in_order}
 use Rattle.vaults.proofs.Orders.{names_exact}
 use Rattle.cred_graph.specs.Graph.{GraphState, IsSolution, members_of}
@@ -13,19 +13,16 @@ use Rattle.scholten_core.specs.declared.letters.Letter.{Letter}
 use Rattle.scholten_core.specs.Computation.{outstanding, Computation}
 use Rattle.search.specs.declared.letters.Load.{Load}
 use Rattle.search.specs.declared.queries.Query.{Query}
-use Rattle.search.specs.declared.queries.Query.TheVariants as query
 use Rattle.search.specs.declared.outcomes.Status.{Status}
-use Rattle.search.specs.declared.outcomes.Status.TheVariants as status
 use Rattle.search.specs.declared.stages.Stage.{Stage}
-use Rattle.search.specs.declared.stages.Stage.TheVariants as stage
 use Rattle.search.specs.Ending.{Nothing, Yes, No, Settled, IsTruth, IsEnding, MaySettle, Members, answers, spends, breaks}
 use Rattle.search.specs.Search.{IsAnswered, status_of, found, come_to, SearchState, IsOutstanding, IsCompleted, settled_of, SameQuestion, Settles, KeptBy, IsKept, rows_of, asked_role}
 use Rattle.search.specs.Stage.{waiting_in, held_in, if_held, Delivers}
 use Rattle.search.proofs.Kept.{solution_of_member, member_of_solution}
-use Rattle.std.specs.List.Sorted.{IsStrictlySortedBy}
+use Rattle.std.specs.List.Sorted.{IsStrictlySortedBy, IsPermutation, IsSorted}
 use Rattle.credential_text.specs.declared.credentials.Credential.{Credential}
 use Rattle.rt0_rules.specs.Membership.{IsMember, AreMembers}
-use Rattle.rt0_rules.specs.Work.{WorkIs}
+use Rattle.rt0_rules.specs.Work.{WorkIs, AreDistinct}
 use Rattle.rt0_rules.proofs.LawLemmas.{members_are_one}
 use Rattle.vaults.specs.InOrder.{in_order}
 use Rattle.vaults.specs.Journal.{credentials}
@@ -33,6 +30,18 @@ use Rattle.snapshots.specs.Snapshot.{SnapshotState}
 use Rattle.search.specs.declared.findings.Monitor.{Monitor}
 use Rattle.search.proofs.Searching.{delivered_kept, no_letters, member_found, found_member, completed_members}
 use Rattle.search.proofs.WorkOf.{sent_is_work}
+use Rattle.std.specs.Cmp.Lexicographic.{texts_ties}
+use Rattle.std.proofs.Math.Seq.{take-suc}
+use Rattle.std.proofs.lemmas.Cmp.{nat_list_eq_equiv, nat_list_cmp_total}
+use Rattle.std.proofs.lemmas.List.Elements.{Contains-append_right}
+use Rattle.std.proofs.lemmas.List.Kept.{IsStrictlySortedBy-dedup}
+use Rattle.std.proofs.lemmas.List.Sorted.{Contains-permutation, IsPermutation-sym}
+use Rattle.std.proofs.lemmas.Map.Keys.{IsDistinct-head, IsDistinct-tail, IsDistinct-IsPermutation}
+use Rattle.std.proofs.lemmas.Option.{slice_get_within, get_or_from_slice_get}
+use Rattle.rt0_rules.proofs.Elements.{Contains-first}
+use Rattle.search.specs.declared.queries.Query.TheVariants as query
+use Rattle.search.specs.declared.outcomes.Status.TheVariants as status
+use Rattle.search.specs.declared.stages.Stage.TheVariants as stage
 
 -- a name is among the members where the test finds it
 pub among_members : (g : GraphState) (who : List ℕ) → (list_any (is_same who) (members_of g 0) ≡ true) ↔ IsSolution g 0 who
@@ -143,8 +152,7 @@ waits_outstanding (stage.Running c) place x at = λ none. absurd (omega (arith, 
 waits_outstanding _ place x at = cc
 
 pub delivers_outstanding : (old new : Stage) (place : ℕ) → Delivers old new place true → IsOutstanding old
-delivers_outstanding old new place (c, d, ran, runs, below, delivers) =
-    subst IsOutstanding (sym ran) (λ none. absurd (omega (arith, none, below)))
+delivers_outstanding old new place (c, d, ran, runs, below, delivers) = subst IsOutstanding (sym ran) (λ none. absurd (omega (arith, none, below)))
 
 -- a search that is at its end has come to the truth, or to more work than its limit
 
@@ -249,3 +257,46 @@ pub listed_settled : (s : SearchState) (names : List (List ℕ)) → IsKept s �
     (role : Role) → s.query ≡ query.Who role → settled_of s ≡ Members names
 unfolding settled_of
 listed_settled s names kept done are role asks = listed_at s s.stage names refl kept done are role asks
+
+-- the solutions of a node, each once, in order of their names
+
+-- the first elements, and one more
+pub one_more : (ms : List (List ℕ)) (i : ℕ) (who : List ℕ) → slice_get ms i ≡ Some who → take (i + 1) ms ≡ take i ms ++ who ∷ []
+one_more ms i who at =
+    let within : i < length ms = slice_get_within ms i who at in
+    rw add-one (take-suc ms i who within ∙ ap (λ (x : List ℕ). take i ms ++ x ∷ []) (get_or_from_slice_get ms i who who at))
+
+not_among : (name : List ℕ) (names : List (List ℕ)) → (Contains names name → ⊥) → AllByRecursion (λ other. is_same name other ≡ false) names
+not_among name [] none = tt
+not_among name (other ∷ names) none =
+    (by (is_same name other) refl, not_among name names (λ has. none (Contains-append_right (other ∷ []) names name has)))
+  where
+    by : (b : Bool) → is_same name other ≡ b → is_same name other ≡ false
+    by true same = absurd (none (subst (Contains (other ∷ names)) (sym (same_from_is_same name other same)) (Contains-first other names)))
+    by false else = else
+
+differ : (names : List (List ℕ)) → AreDistinct names → IsDistinct is_same names
+unfolding IsDistinct
+differ [] distinct = tt
+differ (name ∷ names) distinct = (not_among name names distinct.0, differ names distinct.1)
+
+-- of names that differ none is dropped
+none_dropped : (name : List ℕ) (names : List (List ℕ)) → IsDistinct is_same (name ∷ names) → dedup_from is_same name names ≡ name ∷ names
+none_dropped name [] distinct = refl
+none_dropped name (other ∷ names) distinct =
+    let else : is_same other name ≡ false = nat_list_eq_equiv.symm other name ∙ (IsDistinct-head is_same name (other ∷ names) distinct).0 in
+    ap (λ (b : Bool). cond b (dedup_from is_same name names) (name ∷ dedup_from is_same other names)) else
+    ∙ ap (λ (rest : List (List ℕ)). name ∷ rest) (none_dropped other names (IsDistinct-tail is_same name (other ∷ names) distinct))
+
+all_kept : (names : List (List ℕ)) → IsDistinct is_same names → dedup is_same names ≡ names
+all_kept [] distinct = refl
+all_kept (name ∷ names) distinct = none_dropped name names distinct
+
+-- names that differ rise once they are sorted
+pub sorted_once : (names sorted : List (List ℕ)) → AreDistinct names → IsPermutation names sorted → IsSorted name_order sorted → IsStrictlySortedBy name_order sorted
+sorted_once names sorted distinct moved up =
+    let once : IsDistinct is_same sorted = IsDistinct-IsPermutation is_same nat_list_eq_equiv.symm names sorted moved (differ names distinct) in
+    subst (IsStrictlySortedBy name_order) (all_kept sorted once) (IsStrictlySortedBy-dedup nat_list_cmp_total texts_ties sorted up)
+
+pub same_names : (names sorted : List (List ℕ)) → IsPermutation names sorted → (d : List ℕ) → Contains sorted d ↔ Contains names d
+same_names names sorted moved d = (Contains-permutation sorted names d (IsPermutation-sym names sorted moved), Contains-permutation names sorted d moved)

@@ -36,8 +36,7 @@ use Rattle.search.specs.declared.findings.Monitor.TheVariants as monitor
 
 -- the letters are counted while the node answers a letter, where these others are under way
 abbrev pub IsCountedAt : List Sent → ℕ → ℕ → (NodeAsk → Type 0) → Progress → Type 0
-IsCountedAt rest n sent may_ask s =
-    IsCountedBy may_ask (members_of s.graph) (heard s.graph) (asks_in (rest ++ sent_by n s.outs)) (sent + length s.outs)
+IsCountedAt rest n sent may_ask s = IsCountedBy may_ask (members_of s.graph) (heard s.graph) (asks_in (rest ++ sent_by n s.outs)) (sent + length s.outs)
 
 -- the same lists in other words
 pub same_count : {may_ask : NodeAsk → Type 0} {members after : ℕ → List (List ℕ)} {listeners hearers pending waiting : List NodeAsk} {sent total : ℕ} →
@@ -104,8 +103,7 @@ counted_without before after x n sent s none counted =
     same_count refl refl (asked_without ∙ refl) refl counted
   where
     asked_without : asks_in ((before ++ (x ∷ after)) ++ sent_by n s.outs) ≡ asks_in ((before ++ after) ++ sent_by n s.outs)
-    asked_without =
-        simp (asks_in-append, append_assoc) (ap (λ l. asks_in before ++ (l ++ (asks_in after ++ asks_in (sent_by n s.outs)))) none)
+    asked_without = simp (asks_in-append, append_assoc) (ap (λ l. asks_in before ++ (l ++ (asks_in after ++ asks_in (sent_by n s.outs)))) none)
 
 -- lists without repeats share nothing
 apart : {X : Type 0} (xs ys : List X) (x : X) → AreDistinct (xs ++ ys) → Contains xs x → Contains ys x → ⊥

@@ -39,8 +39,7 @@ AreDistinct-to_front (x ∷ ys) zs y distinct =
 
 pub AreDistinct-moved : {X : Type 0} (xs ys zs : List X) (y : X) → AreDistinct (xs ++ (ys ++ (y ∷ zs))) → AreDistinct (xs ++ (y ∷ (ys ++ zs)))
 AreDistinct-moved [] ys zs y distinct = AreDistinct-to_front ys zs y distinct
-AreDistinct-moved (x ∷ xs) ys zs y distinct =
-    ((λ has. distinct.0 (Contains-moved xs ys zs x y has)), AreDistinct-moved xs ys zs y distinct.1)
+AreDistinct-moved (x ∷ xs) ys zs y distinct = ((λ has. distinct.0 (Contains-moved xs ys zs x y has)), AreDistinct-moved xs ys zs y distinct.1)
 
 -- lists one by one related, where the relation tells the first ones apart
 pub AreDistinct-zipped : {X Y : Type 0} (R : X → Y → Type 0) → ((x z : X) (y : Y) → R x y → R z y → x ≡ z) → (xs : List X) (ys : List Y) →

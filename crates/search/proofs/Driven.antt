@@ -5,22 +5,23 @@ use Rattle.std.proofs.lemmas.Map.Views.{exact_unsigned_eq}
 use Rattle.credential_text.specs.declared.exprs.Expr.{Expr}
 use Rattle.cred_graph.specs.Graph.{IsNode}
 use Rattle.scholten_core.specs.declared.letters.Letter.{Letter}
-use Rattle.scholten_core.specs.Computation.{Computation}
+use Rattle.scholten_core.specs.Computation.{Computation, outstanding}
 use Rattle.search.specs.declared.letters.Load.{Load}
 use Rattle.search.specs.declared.letters.Held.{Held}
 use Rattle.search.specs.declared.queries.Need.{Need}
 use Rattle.search.specs.declared.outcomes.Finished.{Finished}
-use Rattle.search.specs.declared.outcomes.Finished.TheVariants as finished
 use Rattle.search.specs.declared.stages.Stage.{Stage}
-use Rattle.search.specs.declared.stages.Stage.TheVariants as stage
 use Rattle.search.specs.Finish.{need_of, right_hint, Needs, Takes, TakesHeld, IsRightly, Received, Receives, Finishes, SignalsFirst, FinishesFirst, IsDriven}
 use Rattle.search.specs.Stage.{waiting_in, signals_in, held_in, letter_in, Delivers, IsQuiet, NoneHeld, HoldsAsBefore}
-use Rattle.search.specs.Search.{SearchState, SameQuestion, Settles}
-use Rattle.search.proofs.Grow.{one_expr}
+use Rattle.search.specs.Search.{SearchState, SameQuestion, Settles, IsCompleted}
+use Rattle.search.proofs.Kept.{one_expr}
 use Rattle.search.proofs.Answered.{settles_on}
-use Rattle.search.proofs.Finishing.{finishes_rightly, rightly_needed}
-use Rattle.search.proofs.Holding.{finished_gone, finished_other, marked_other, signalled_holds, steps_left, marked_left, held_left, finished_left, signalled_left}
-use Rattle.search.proofs.Taking.{hand_needs}
+use Rattle.search.proofs.Finishing.{finishes_rightly, rightly_needed, hand_needs}
+use Rattle.search.proofs.Searching.{finished_gone, finished_other, marked_other, signalled_holds, steps_left, marked_left, held_left, finished_left, signalled_left}
+use Rattle.std.proofs.lemmas.List.{nil_from_length}
+use Rattle.search.specs.Net.{Said}
+use Rattle.search.specs.declared.outcomes.Finished.TheVariants as finished
+use Rattle.search.specs.declared.stages.Stage.TheVariants as stage
 
 -- the letter that was taken was received, or the search has ended with it
 data IsReceipt (held t : SearchState) (number : ℕ) : Type 0 where
@@ -83,11 +84,7 @@ module _ (s held t : SearchState) (number : ℕ) (need : Need) (takes : Takes s 
   receipt_question (ends l is stops none same) = same
 
 question_on : (s m t : SearchState) → SameQuestion s m → SameQuestion m t → SameQuestion s t
-question_on s m t one other = record {
-  query = other.query ∙ one.query;
-  work = other.work ∙ one.work;
-  snapshot = other.snapshot ∙ one.snapshot;
-}
+question_on s m t one other = record { query = other.query ∙ one.query; work = other.work ∙ one.work; snapshot = other.snapshot ∙ one.snapshot }
 
 waiting_runs : (st : Stage) (x : ℕ × Letter (Load ℕ)) → slice_get (waiting_in st) 0 ≡ Some x → (c : Computation (Load ℕ)) × (st ≡ stage.Running c)
 waiting_runs (stage.Running c) x at = (c, refl)
@@ -148,8 +145,7 @@ driven_holds s t (IsDriven.letter {middle} {number} {need} {told} before made) =
 
 pub driven_question : (s t : SearchState) → IsDriven s t → SameQuestion s t
 driven_question s t IsDriven.rests = record { query = refl; work = refl; snapshot = refl }
-driven_question s t (IsDriven.signal {middle} before made) =
-    question_on s middle t (driven_question s middle before) (made_question middle t (inl made))
+driven_question s t (IsDriven.signal {middle} before made) = question_on s middle t (driven_question s middle before) (made_question middle t (inl made))
 driven_question s t (IsDriven.letter {middle} {number} {need} {told} before made) =
     question_on s middle t (driven_question s middle before) (made_question middle t (inr (number, need, told, made)))
 
@@ -204,3 +200,23 @@ finishes_first s held t number h told few takes takes_settles receives finish_se
         finish_settles = finish_settles;
       },
     )
+
+-- a completed search holds no letter, and nothing of it moves: it stays as it is
+
+no_letters : (c : Computation Said) → outstanding c ≡ 0 → c.letters ≡ []
+no_letters c done = nil_from_length c.letters (omega (arith, done))
+
+-- no letter waits
+pub waits_none : (st : Stage) → IsCompleted st → waiting_in st ≡ []
+waits_none (stage.Running c) done = ap (λ ls. waiting_in (stage.Running (record c { letters = ls }))) (no_letters c done)
+waits_none _ done = refl
+
+-- no signal is under way
+pub signals_none : (st : Stage) → IsCompleted st → signals_in st ≡ []
+signals_none (stage.Running c) done = nil_from_length c.signals (omega (arith, done))
+signals_none _ done = refl
+
+-- no letter is held
+pub held_none : (st : Stage) → IsCompleted st → (number : ℕ) → held_in st number ≡ None
+held_none (stage.Running c) done number = ap (λ ls. held_in (stage.Running (record c { letters = ls })) number) (no_letters c done)
+held_none _ done number = refl

@@ -1,16 +1,8 @@
 pub mod Tells
-pub mod Grow
 pub mod Receive
 pub mod Kept
 pub mod Told
-pub mod Owed
-pub mod Loops
 pub mod Steps
-pub mod Taking
-pub mod Rows
-pub mod Holding
-pub mod AskLoops
-pub mod Listing
 pub mod Searching
 pub mod Finishing
 pub mod Counting
@@ -18,9 +10,6 @@ pub mod CountedGraph
 pub mod Asked
 pub mod Counted
 pub mod WorkOf
-pub mod Tallied
 pub mod Answered
-pub mod ByNumber
 pub mod Numbered
 pub mod Driven
-pub mod Stays

@@ -1,6 +1,6 @@
 -- What the numbers in letters stand for goes on while nodes are added.
-use Rattle.std.proofs.Common.{slice_get, suc, None, Some, ℕ, ◌<◌, ◌≤◌, All, get_or, length, arith, ◌≡◌, ◌∙◌, ◌⊎◌, map, Bool, true, false, Contains, refl, sym, subst, ap, List, [], ◌∷◌, ◌++◌, if◌then◌else◌, inl, inr, append-nil, Result, Ok, Err, set, IfOk, OnErr}
-use Rattle.std.proofs.lemmas.Option.{same_Some, slice_get-get_or, slice_get-map, slice_get_read, slice_get_within}
+use Rattle.std.proofs.Common.{slice_get, suc, None, Some, ℕ, ◌<◌, ◌≤◌, All, get_or, length, arith, ◌≡◌, ◌∙◌, ◌⊎◌, map, Bool, true, false, Contains, refl, sym, subst, ap, List, [], ◌∷◌, ◌++◌, if◌then◌else◌, inl, inr, append-nil, Result, Ok, Err, set, IfOk, OnErr, ◌+◌, ◌==◌, cond, not, filter}
+use Rattle.std.proofs.lemmas.Option.{same_Some, slice_get-get_or, slice_get-map, slice_get_read, slice_get_within, none-some}
 use Rattle.std.proofs.lemmas.List.Elements.{All-cons, All-head, All-nil, All-push, All-tail, All-weaker, Contains-push_cases, All-contains, All-set, Contains-get_or}
 use Rattle.std.proofs.lemmas.List.{map-append, length-append, length-set, length-map, map-set}
 use Rattle.credential_text.specs.declared.exprs.Expr.{Expr}
@@ -9,12 +9,10 @@ use Rattle.credential_text.specs.declared.credentials.Credential.{Credential}
 use Rattle.vaults.specs.Journal.{Vault}
 use Rattle.cred_graph.specs.declared.listeners.Listening.{Listening}
 use Rattle.cred_graph.specs.declared.listeners.Port.{Port}
-use Rattle.cred_graph.specs.declared.listeners.Port.TheVariants as port
 use Rattle.cred_graph.specs.Graph.{GraphState, IsGraph, IsNode, NodeGiven, ListenerGiven, SolutionGiven}
 use Rattle.cred_graph.specs.NodeLists.{list_at, IsOnce}
 use Rattle.cred_graph.specs.declared.solutions.Solution.{Solution}
-use Rattle.std.specs.FinSet as set
-use Rattle.std.specs.Map.{keys_of}
+use Rattle.std.specs.Map.{keys_of, lookup}
 use Rattle.monitors.specs.declared.tellers.Tellers.{Tellers}
 use Rattle.monitors.specs.MeetMonitor.{pairs_of, named, MeetTold, MeetLines, TellsApart, told_by, HearsByName, HasKeysOf}
 use Rattle.cred_graph.specs.Numbers.{IsEntity, IsNamed, IsPort, entity_at, port_at}
@@ -23,10 +21,7 @@ use Rattle.cred_graph.proofs.NumberLemmas.{entity_goes_on, entity_stays, named_g
 use Rattle.scholten_core.specs.declared.letters.Letter.{Letter}
 use Rattle.scholten_core.specs.Step.{started}
 use Rattle.search.specs.declared.letters.Load.{Load}
-use Rattle.search.specs.declared.letters.Load.TheVariants as load
-use Rattle.search.specs.declared.findings.Monitor.TheVariants as monitor
 use Rattle.search.specs.declared.findings.NumberedMonitor.{NumberedMonitor}
-use Rattle.search.specs.declared.findings.NumberedMonitor.TheVariants as numbered_monitor
 use Rattle.search.proofs.Asked.{asked_each}
 use Rattle.search.specs.Answers.{Progress, AsksFor, IsOpenAt, Opens, own_rows, new_monitor, row_asks, part_asks}
 use Rattle.search.specs.Net.{IsLoad, in_words, load_at, outs_at, sent_of}
@@ -35,10 +30,18 @@ use Rattle.std.specs.Option.{option_map}
 use Rattle.std.specs.declared.alloc.AllocError.{AllocError}
 use Rattle.rt0_rules.proofs.Distinct.{mapped}
 use Rattle.rt0_rules.proofs.Unknown.{Contains-map}
-use Rattle.cred_graph.proofs.Lists.{Contains-at_place}
+use Rattle.cred_graph.proofs.NodeListLemmas.{Contains-at_place}
 use Rattle.monitors.specs.LinkMonitor.{AddsKey}
 use Rattle.search.specs.declared.findings.Monitor.{Monitor}
 use Rattle.search.proofs.Tells.{BaseHeard, PartHeard}
+use Rattle.std.proofs.lemmas.Map.Views.{exact_unsigned_eq}
+use Rattle.scholten_core.specs.Sound.{IsNumbered}
+use Rattle.scholten_core.proofs.Lists.{changed}
+use Rattle.cred_graph.specs.declared.listeners.Port.TheVariants as port
+use Rattle.std.specs.FinSet as set
+use Rattle.search.specs.declared.letters.Load.TheVariants as load
+use Rattle.search.specs.declared.findings.Monitor.TheVariants as monitor
+use Rattle.search.specs.declared.findings.NumberedMonitor.TheVariants as numbered_monitor
 
 -- the numbers in these letters are entities'
 abbrev pub AreLetters : List Expr → List (ℕ × Letter (Load ℕ)) → Type 0
@@ -355,3 +358,60 @@ module _ (nodes : List Expr) (once : IsOnce nodes) where
   part_heard ms node part x y k last are at is heard =
       let own : IsMonitor nodes (numbered_monitor.Meet x) = monitor_there nodes ms node (numbered_monitor.Meet x) are at in
       (told_by (entity_at nodes) x, told_by (entity_at nodes) y, shown_at nodes ms node (numbered_monitor.Meet x) at, heard (entity_at nodes) (told_apart k (keys_of x.lines) is own), shown_set nodes ms node (numbered_monitor.Meet y))
+
+-- letters by their numbers: which there are after one is marked, is finished, or more are sent
+
+module _ {X : Type 0} where
+  -- what passes a test is no longer than all
+  filter-le : (p : ℕ × X → Bool) (ls : List (ℕ × X)) → length (filter p ls) ≤ length ls
+  filter-le p [] = omega arith
+  filter-le p (l ∷ ls) =
+      elim (p l) as (λ b. length (cond b (l ∷ filter p ls) (filter p ls)) ≤ length (l ∷ ls)) [
+        | true ↦ omega (arith, filter-le p ls)
+        | false ↦ omega (arith, filter-le p ls)
+      ]
+
+  -- with the letter of a number something goes
+  pub rest_shorter : (k : ℕ) (ls : List (ℕ × X)) (x : X) → lookup (λ n. n == k) ls ≡ Some x → length (filter (λ l. not (l.0 == k)) ls) + 1 ≤ length ls
+  rest_shorter k [] x found = absurd (none-some _ found)
+  rest_shorter k (l ∷ ls) x found =
+      elim (l.0 == k) as (λ b. cond b (Some l.1) (lookup (λ n. n == k) ls) ≡ Some x → length (cond (not b) (l ∷ filter (λ e. not (e.0 == k)) ls) (filter (λ e. not (e.0 == k)) ls)) + 1 ≤ length (l ∷ ls)) [
+        | true ↦ λ _. omega (arith, filter-le (λ e. not (e.0 == k)) ls)
+        | false ↦ λ later. omega (arith, rest_shorter k ls x later)
+      ] found
+
+  -- the letter of another number stays
+  pub lookup-rest_other : (k n : ℕ) → (k == n) ≡ false → (ls : List (ℕ × X)) → lookup (λ m. m == n) (filter (λ l. not (l.0 == k)) ls) ≡ lookup (λ m. m == n) ls
+  lookup-rest_other k n other [] = refl
+  lookup-rest_other k n other (l ∷ ls) =
+      elim (l.0 == k) as (λ b. (l.0 == k) ≡ b → lookup (λ m. m == n) (cond (not b) (l ∷ filter (λ e. not (e.0 == k)) ls) (filter (λ e. not (e.0 == k)) ls)) ≡ cond (l.0 == n) (Some l.1) (lookup (λ m. m == n) ls)) [
+        | true ↦ λ one. lookup-rest_other k n other ls ∙ sym (ap (λ b. cond b (Some l.1) (lookup (λ m. m == n) ls)) (ap (λ m. m == n) (exact_unsigned_eq l.0 k one) ∙ other))
+        | false ↦ λ _. ap (λ o. cond (l.0 == n) (Some l.1) o) (lookup-rest_other k n other ls)
+      ] refl
+
+  -- the letter of that number is gone
+  pub lookup-rest : (k : ℕ) (ls : List (ℕ × X)) → lookup (λ m. m == k) (filter (λ l. not (l.0 == k)) ls) ≡ None
+  lookup-rest k [] = refl
+  lookup-rest k (l ∷ ls) =
+      elim (l.0 == k) as (λ b. (l.0 == k) ≡ b → lookup (λ m. m == k) (cond (not b) (l ∷ filter (λ e. not (e.0 == k)) ls) (filter (λ e. not (e.0 == k)) ls)) ≡ None) [
+        | true ↦ λ _. lookup-rest k ls
+        | false ↦ λ other. ap (λ b. cond b (Some l.1) (lookup (λ m. m == k) (filter (λ e. not (e.0 == k)) ls))) other ∙ lookup-rest k ls
+      ] refl
+
+  pub lookup-changed_other : (k n : ℕ) → (k == n) ≡ false → (f : X → X) (ls : List (ℕ × X)) → lookup (λ m. m == n) (map (changed k f) ls) ≡ lookup (λ m. m == n) ls
+  lookup-changed_other k n other f [] = refl
+  lookup-changed_other k n other f (l ∷ ls) =
+      elim (l.0 == k) as (λ b. (l.0 == k) ≡ b → lookup (λ m. m == n) (cond b (l.0, f l.1) l ∷ map (changed k f) ls) ≡ cond (l.0 == n) (Some l.1) (lookup (λ m. m == n) ls)) [
+        | true ↦ λ one. let apart : (l.0 == n) ≡ false = ap (λ m. m == n) (exact_unsigned_eq l.0 k one) ∙ other in
+            ap (λ b. cond b (Some (f l.1)) (lookup (λ m. m == n) (map (changed k f) ls))) apart ∙ lookup-changed_other k n other f ls ∙ sym (ap (λ b. cond b (Some l.1) (lookup (λ m. m == n) ls)) apart)
+        | false ↦ λ _. ap (λ o. cond (l.0 == n) (Some l.1) o) (lookup-changed_other k n other f ls)
+      ] refl
+
+  -- letters that were changed had the same numbers
+  pub numbered_before : (k : ℕ) (f : X → X) (low : ℕ) (ls : List (ℕ × X)) (high : ℕ) → IsNumbered low (map (changed k f) ls) high → IsNumbered low ls high
+  numbered_before k f low [] high rising = rising
+  numbered_before k f low (l ∷ ls) high rising =
+      elim (l.0 == k) as (λ b. IsNumbered low (cond b (l.0, f l.1) l ∷ map (changed k f) ls) high → IsNumbered low (l ∷ ls) high) [
+        | true ↦ λ so. (so.0, numbered_before k f l.0 ls high so.1)
+        | false ↦ λ so. (so.0, numbered_before k f l.0 ls high so.1)
+      ] rising

@@ -19,7 +19,7 @@ use Rattle.cred_graph.specs.declared.solutions.Reason.{Reason}
 use Rattle.cred_graph.specs.declared.solutions.Reason.TheVariants as reason
 use Rattle.cred_graph.specs.declared.solutions.Solution.{Solution}
 use Rattle.cred_graph.specs.Graph.{GraphState, IsNode, IsSolution, Known, Listens, Fits, NodeGiven}
-use Rattle.cred_graph.proofs.Lists.{slice_get_pushed, slice_get_stays}
+use Rattle.cred_graph.proofs.NodeListLemmas.{slice_get_pushed, slice_get_stays}
 use Rattle.cred_graph.proofs.Growth.{with_node, with_listener}
 use Rattle.scholten_core.specs.declared.parents.Parent.TheVariants.{Node}
 use Rattle.search.specs.declared.letters.Load.{Load}
@@ -28,15 +28,13 @@ use Rattle.search.specs.declared.findings.Monitor.{Monitor}
 use Rattle.search.specs.Net.{Net, Sent, sent_by, why_of, HasListener, IsAsked, AskFits, LetterFits, SolutionFits, OpenedPaid, IsSteady, IsTaken, PartFits, MonitorFits}
 use Rattle.search.specs.Answers.{Progress, progress, net_at, new_monitor, AsksFor, AsksEach, Solves, HearsAsk, part_asks, Opens, TellsBase, TellsPart, TakesIn, TellsLast, MayTakeIn}
 use Rattle.search.proofs.Tells.{new_tells, known_tells}
-use Rattle.search.proofs.Grow.{Grows, known_stays, asks_more, asked_stays, zip_right, one_expr, part_fits_stays}
-use Rattle.search.proofs.Kept.{node_grows, node_steady, letters_grow, letters_steady, pending_new, solve_grows, solve_steady, hear_grows, hear_steady, listens_new}
-use Rattle.search.proofs.Owed.{sound}
+use Rattle.search.proofs.Kept.{Grows, known_stays, asks_more, asked_stays, zip_right, one_expr, part_fits_stays, node_grows, node_steady, letters_grow, letters_steady, pending_new, solve_grows, solve_steady, hear_grows, hear_steady, listens_new}
+use Rattle.search.proofs.Told.{sound, tell_cases, base_grows, base_taken, base_steady, part_grows, part_taken, part_steady}
 use Rattle.std.specs.FinSet as fin
 use Rattle.std.proofs.lemmas.Bool.{cases_Bool, false≢true}
 use Rattle.monitors.specs.LinkMonitor.{AddsKey}
 use Rattle.monitors.specs.MeetMonitor.{MeetTold, HasTold, AllTold, with_tell}
 use Rattle.search.specs.declared.findings.Monitor.TheVariants as monitor
-use Rattle.search.proofs.Told.{tell_cases, base_grows, base_taken, base_steady, part_grows, part_taken, part_steady}
 
 pub same_net : (old new : Net) → new ≡ old → Grows old new
 same_net old new e = subst (λ (n : Net). Grows old n) (sym e) (record {
@@ -188,8 +186,7 @@ module _ (rows : List Credential) (asked : Role) (rest : List Sent) (node : ℕ)
 
   pub asks_each : (ws : List (Expr × Port (List ℕ))) (s t : Progress) (d : Expr) → AsksEach s ws t → IsSteady rows asked (net_at s rest node) → IsNode s.graph node d →
       ((e : Expr) (p : Port (List ℕ)) → Contains ws (e, p) → Asks rows (Known s.graph) d (why_of p) e) → AskedEach s t ws
-  asks_each [] s t d same steady asker asks =
-      record { moves = stays s t steady same; asked_now = λ e p among. absurd (Contains-none (e, p) among) }
+  asks_each [] s t d same steady asker asks = record { moves = stays s t steady same; asked_now = λ e p among. absurd (Contains-none (e, p) among) }
   asks_each (w ∷ ws) s t d (mid, here, later) steady asker asks =
       let first = asks_for s mid w.0 w.1 d here steady asker (asks w.0 w.1 (Contains-first w ws)) in
       let others = asks_each ws mid t d later first.moves.steady (first.moves.grows.nodes node d asker)
@@ -259,10 +256,7 @@ module _ (rows : List Credential) (asked : Role) (rest : List Sent) (node : ℕ)
   opens_role own s t r at asks are steady =
       let body : Credential → Expr × Port (List ℕ) = λ c. (c.body, port.Body) in
       let each = asks_each (map body own) s t (Rol r) asks steady at (λ e p among. row_asks e p among) in
-      record {
-        moves = each.moves;
-        paid = λ c among head. each.asked_now c.body port.Body (Contains-map body own c ((are c).1 (among, head)));
-      }
+      record { moves = each.moves; paid = λ c among head. each.asked_now c.body port.Body (Contains-map body own c ((are c).1 (among, head))) }
     where
       row_asks : (e : Expr) (p : Port (List ℕ)) → Contains {X = Expr × Port (List ℕ)} (map (λ c. (c.body, port.Body)) own) (e, p) → Asks rows (Known s.graph) (Rol r) (why_of p) e
       row_asks e p among =
@@ -287,10 +281,7 @@ module _ (rows : List Credential) (asked : Role) (rest : List Sent) (node : ℕ)
       let part = part_asked 0 parts e p refl among in
       let ask : Asks rows (Known s.graph) (Meet parts) (why_of (port.Part part.place)) (part_expr part.part) = asks_part part.place part.part part.at in
       subst (λ (w : Port (List ℕ)). Asks rows (Known s.graph) (Meet parts) (why_of w) e) (sym part.port_is) (subst (λ (f : Expr). Asks rows (Known s.graph) (Meet parts) (why_of (port.Part part.place)) f) (sym part.expr_is) ask)) in
-      record {
-        moves = each.moves;
-        paid = λ i p place. each.asked_now (part_expr p) (port.Part i) (all_parts_asked 0 parts i p i (omega arith) place);
-      }
+      record { moves = each.moves; paid = λ i p place. each.asked_now (part_expr p) (port.Part i) (all_parts_asked 0 parts i p i (omega arith) place) }
 
 -- a search stays steady where a node takes in what it was told
 

@@ -19,7 +19,7 @@ use Rattle.cred_graph.specs.declared.listeners.Listening.{Listening}
 use Rattle.cred_graph.specs.declared.solutions.Solution.{Solution}
 use Rattle.cred_graph.specs.Graph.{GraphState, IsNode, IsSolution, Known, members_of}
 use Rattle.cred_graph.specs.NodeLists.{list_at}
-use Rattle.cred_graph.proofs.Lists.{place_of_Contains}
+use Rattle.cred_graph.proofs.NodeListLemmas.{place_of_Contains}
 use Rattle.scholten_core.specs.declared.parents.Parent.{Parent}
 use Rattle.scholten_core.specs.declared.parents.Parent.TheVariants.{Environment, Node}
 use Rattle.search.specs.declared.letters.Load.{Load}
@@ -27,7 +27,7 @@ use Rattle.search.specs.declared.letters.Load.TheVariants as load
 use Rattle.search.specs.Net.{Net, Sent, LetterFits, SolutionFits, IsPendingStart, IsPendingBetween, why_of, IsRight, IsSteady, OwesRules}
 use Rattle.search.specs.Search.{heard_of, heard_from, heard, ask_from, asks_in, IsCountedBy, IsCounted}
 use Rattle.search.proofs.CountedGraph.{heard_has}
-use Rattle.search.proofs.Owed.{owes_rules}
+use Rattle.search.proofs.Told.{owes_rules}
 use Rattle.search.proofs.Kept.{member_of_solution}
 
 -- an ask that was heard is of a listener

@@ -20,7 +20,7 @@ use crate::letters::{Held, Load};
 use crate::members::solutions_in_order;
 use crate::outcomes::{Finished, Status};
 use crate::queries::{Hint, Need, Query, Task};
-use crate::stages::{Stage, break_off, deliver, give_back, held_letter, hold, leave_letters, send};
+use crate::stages::{Stage, break_off, deliver, give_back, held_letter, hold, send};
 use crate::tables::Tables;
 use cred_graph::{Graph, Port};
 use names::{Entity, Role};
@@ -28,6 +28,7 @@ use scholten_core::Diffusion;
 use snapshots::{Snapshot, Span};
 use std::alloc::{AllocError, Global};
 use std::marker::Model;
+use std::mem;
 use std::sync::Arc;
 
 /// One search, from its opening to its answer.
@@ -102,12 +103,12 @@ impl Search {
         requires { 0 < work }
         ensures { IfOk result (λ s. s ≡ new_search query work (arc_value snapshot)) }
     {
-        Search::open_in(Tables::new(alloc), alloc, snapshot, query, work)
+        Search::open_in(&mut Tables::new(alloc), alloc, snapshot, query, work)
     }
 
-    /// A search as `open` makes it, in these tables.
+    /// A search as `open` makes it, in the spare tables, in whose place stand others then, with no memory.
     pub fn open_in(
-        tables: Tables,
+        spare: &mut Tables,
         alloc: Global,
         snapshot: Arc<Snapshot>,
         query: Query,
@@ -116,16 +117,17 @@ impl Search {
         requires { 0 < work }
         ensures { IfOk result (λ s. s ≡ new_search query work (arc_value snapshot)) }
     {
-        let Tables { mut found, stage } = tables;
+        let mut found = mem::replace(&mut spare.found, Findings::new(alloc));
+        let mut stage = mem::replace(&mut spare.stage, Stage::Spent);
         found.first(query.role())?;
-        let running = stage.begin(alloc)?;
+        stage.begin(alloc)?;
         let _ports: Option<Port> = None;
         Ok(Search {
             query,
             work,
             snapshot,
             found,
-            stage: Stage::Running(running),
+            stage,
             keeps_room: true,
             alloc,
         })
@@ -137,38 +139,37 @@ impl Search {
         self.found.is_small() && self.stage.is_small()
     }
 
-    /// Leaves the tables of its letters as spare ones, where it is completed, by few letters, and no others are spare.
-    pub fn leave_letters(&mut self, spare: &mut Tables)
-        ensures { self.new ≡ self.old }
-    {
-        leave_letters(&mut self.stage, &mut spare.stage);
-    }
-
-    /// Ends the search. Its tables are emptied for another one.
-    pub fn into_tables(self) -> Tables {
+    /// Ends the search. Its tables, emptied, are spare from now on: those of its letters only where the search is small and there
+    /// are no others.
+    pub fn leave_tables(self, spare: &mut Tables) {
         let Search {
             query: _query,
             work: _work,
             snapshot: _snapshot,
             mut found,
-            mut stage,
+            stage,
             keeps_room: _,
             alloc: _alloc,
         } = self;
-        if !found.is_small() || !stage.is_small() || !stage.has_first_room() {
-            stage = Stage::Spent;
+        if !spare.stage.has_first_room()
+            && found.is_small()
+            && stage.is_small()
+            && stage.has_first_room()
+        {
+            spare.stage = stage;
         }
         found.forget();
-        Tables { found, stage }
+        spare.found = found;
     }
 
     /// Gives back the memory that nothing takes, where the search is completed, and else as soon as it is. Before that is asked, a
-    /// search that isn't large keeps the room of its tables, for the next one that is opened in them.
-    pub fn give_back(&mut self)
+    /// search that isn't large keeps the room of its tables, for the next one that is opened in them. Those of its letters, if it is
+    /// completed by few, are spare from now on, where there are no others.
+    pub fn give_back(&mut self, spare: &mut Tables)
         ensures { self.new ≡ self.old }
     {
         self.keeps_room = false;
-        give_back(&mut self.stage, &mut self.found);
+        give_back(&mut self.stage, &mut self.found, &mut spare.stage);
     }
 
     /// How many letters wait.

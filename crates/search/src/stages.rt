@@ -1,7 +1,7 @@
 //! Where a search stands, and the steps of its computation.
-ghost use Rattle.std.specs.Prelude.{◌≡◌, ◌≤◌, ℕ, List, All, None, slice_get, IfOk, MatchOption};
+ghost use Rattle.std.specs.Prelude.{◌≡◌, ◌≤◌, ℕ, List, All, None, slice_get, OnOk, MatchOption};
 ghost use Rattle.scholten_core.specs.declared.letters.Letter.{Letter};
-ghost use Rattle.scholten_core.specs.Computation.{Computation, IsHeld};
+ghost use Rattle.scholten_core.specs.Computation.{Computation, IsHeld, outstanding};
 ghost use Rattle.scholten_core.specs.Step.{started};
 ghost use Rattle.search.specs.Net.{Said, IsLoad, outs_at};
 ghost use Rattle.search.specs.declared.letters.Load.TheVariants as Load;
@@ -54,15 +54,16 @@ impl Stage {
         }
     }
 
-    // The computation of a search that begins, in the tables of letters that the one which stood here has left, if there are any.
-    pub(crate) fn begin(self, alloc: Global) -> Result<Diffusion<Load<u32>>, AllocError>
-        ensures started { IfOk result (λ d. d ≡ started 0 Load.Start) }
+    // The computation of a search begins, in the tables of letters that the one which stood here has left, if there are any.
+    pub(crate) fn begin(&mut self, alloc: Global) -> Result<(), AllocError>
+        ensures started { OnOk result (self.new ≡ Stage.Running (started 0 Load.Start)) }
     {
-        let Stage::Running(mut running) = self else {
-            return Diffusion::start(alloc, 0, Load::Start);
-        };
-        running.restart(0, Load::Start)?;
-        Ok(running)
+        if let Stage::Running(running) = self {
+            running.restart(0, Load::Start)?;
+            return Ok(());
+        }
+        *self = Stage::Running(Diffusion::start(alloc, 0, Load::Start)?);
+        Ok(())
     }
 }
 
@@ -151,29 +152,27 @@ fn rest(running: &mut Diffusion<Load<u32>>, found: &mut Findings, keeps_room: bo
     found.give_back();
 }
 
-// Gives back the memory that nothing takes, where nothing is outstanding.
-pub(crate) fn give_back(stage: &mut Stage, found: &mut Findings)
+// Gives back the memory that nothing takes, where nothing is outstanding. The tables of letters are spare from now on, where there
+// are no others.
+pub(crate) fn give_back(stage: &mut Stage, found: &mut Findings, spare: &mut Stage)
     ensures same { stage.new ≡ stage.old }
     ensures findings { (found.new.graph ≡ found.old.graph) × (found.new.monitors ≡ found.old.monitors) }
 {
     if let Stage::Running(running) = stage {
         if running.is_complete() {
+            leave_letters(running, spare);
             rest(running, found, false);
         }
     }
 }
 
-// The tables of letters of a search that is completed, by few letters, are spare from now on, where there are no others.
-pub(crate) fn leave_letters(stage: &mut Stage, spare: &mut Stage)
-    ensures { stage.new ≡ stage.old }
+// The tables of letters, of a search by few of them, are spare from now on, where there are no others.
+fn leave_letters(running: &mut Diffusion<Load<u32>>, spare: &mut Stage)
+    requires { outstanding running.old ≡ 0 }
+    ensures { running.new ≡ running.old }
 {
-    if spare.has_first_room() {
-        return;
-    }
-    if let Stage::Running(running) = stage {
-        if running.is_complete() && running.has_first_room() && running.sent() <= FEW_LETTERS {
-            *spare = Stage::Running(running.hand_over());
-        }
+    if !spare.has_first_room() && running.has_first_room() && running.sent() <= FEW_LETTERS {
+        *spare = Stage::Running(running.hand_over());
     }
 }
 

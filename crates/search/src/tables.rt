@@ -34,13 +34,4 @@ impl Tables {
             stage: Stage::Spent,
         }
     }
-
-    /// Becomes these, and keeps its tables of letters, where it has any.
-    pub fn take_over(&mut self, others: Tables) {
-        let Tables { found, stage } = others;
-        self.found = found;
-        if !self.stage.has_first_room() {
-            self.stage = stage;
-        }
-    }
 }

@@ -4,6 +4,7 @@ pub mod LastEntries
 pub mod Exactness
 pub mod Accepted
 pub mod Places
+pub mod Copies
 pub mod PageLemmas
 pub mod Parts
 pub mod Holders

@@ -3,7 +3,7 @@ ghost use Rattle.std.specs.Prelude.{true, false, IsSome, IsOk, IfOk, IfErr, OnOk
 ghost use Rattle.std.specs.BTreeMap.{get};
 ghost use Rattle.names.specs.Name.{name_order};
 ghost use Rattle.vaults.specs.Journal.{entries_of, holds, granted, is_public, reads, revokes, refusal, AreAccepted};
-ghost use Rattle.vaults.specs.Journal.{vault, readers, grant_count, one_if, marked_names, uploaded};
+ghost use Rattle.vaults.specs.Journal.{vault, grant_count, marked_names, uploaded};
 ghost use Rattle.vaults.specs.Page.{page_at, page_fault, is_due};
 ghost use Rattle.vaults.specs.Version.{version_rows};
 ghost use Rattle.vaults.specs.Book.{is_granting, is_listed, KeepsChange, IsUnchanged, KeepsGrant, SameGranting, KeepsPublic, SamePublic};
@@ -193,16 +193,6 @@ impl Book {
         owner == who || self.grants(&owner, &who) || self.is_public(&owner)
     }
 
-    /// How many credentials the tenant issues and holds.
-    pub fn creds_of(&self, who: Entity) -> u64
-        ensures { result ≡ length (vault self.now who) }
-    {
-        match self.pages.get(&who) {
-            Some(page) => page.rows_len() as u64,
-            None => 0,
-        }
-    }
-
     /// The version of the owner's vault, to be held by others too: no row is copied, and whatever becomes of the vault,
     /// it keeps its rows.
     pub fn version_of(&mut self, owner: Entity) -> Result<Option<Arc<Version>>, VaultFault>
@@ -225,25 +215,13 @@ impl Book {
         Ok(seen)
     }
 
-    /// How many grants of the tenant stand: one for each reader, itself not counted, and one where its vault is public.
-    pub fn grants_of(&self, who: Entity) -> u64
-        ensures { result ≡ grant_count self.now who }
-    {
-        let readers = self.readers_of(&who);
-        if self.is_public(&who) {
-            readers + 1
-        } else {
-            readers
-        }
-    }
-
     /// What the tenant uses of what may be limited, by one look at its page.
     pub fn used_by(&self, who: &Entity) -> Counts
         ensures creds { result.creds ≡ length (vault self.now who.now) }
         ensures grants { result.grants ≡ grant_count self.now who.now }
         ensures changes { result.changes ≡ length (entries_of who.now self.now) }
     {
-        let public = self.public_of(who);
+        let public = u64::from(self.is_public(who));
         match self.pages.get(who) {
             Some(page) => Counts {
                 creds: page.rows_len() as u64,
@@ -255,35 +233,6 @@ impl Book {
                 grants: public,
                 changes: 0,
             },
-        }
-    }
-
-    /// One where the tenant's vault is public.
-    fn public_of(&self, who: &Entity) -> u64
-        ensures count { result ≡ one_if (is_public self.now who.now) }
-        ensures fits { result < 2 }
-    {
-        if self.is_public(who) { 1 } else { 0 }
-    }
-
-    /// How many readers the tenant has granted.
-    fn readers_of(&self, who: &Entity) -> u64
-        ensures count { result ≡ length (readers self.now who.now) }
-        ensures fits { result < 2 ^ 63 }
-    {
-        match self.pages.get(who) {
-            Some(page) => page.readers_len() as u64,
-            None => 0,
-        }
-    }
-
-    /// How many changes of the tenant were accepted.
-    pub fn changes_of(&self, who: Entity) -> u64
-        ensures { result ≡ length (entries_of who self.now) }
-    {
-        match self.pages.get(&who) {
-            Some(page) => page.changes(),
-            None => 0,
         }
     }
 

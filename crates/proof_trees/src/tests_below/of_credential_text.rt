@@ -15,10 +15,16 @@ fn written(alloc: Global, credential: &Credential) -> Result<Vec<u8>, AllocError
     Ok(out)
 }
 
+/// Whether the credential is written so.
+fn is_written(alloc: Global, credential: &Credential, text: &[u8]) -> Result<bool, AllocError> {
+    let out = written(alloc, credential)?;
+    Ok(out.as_slice() == text)
+}
+
 /// Whether the text spells a credential of this canonical spelling.
 fn is_spelled(alloc: Global, text: &[u8], canonical: &[u8]) -> Result<bool, CredFault> {
     let credential = read_credential(alloc, text)?;
-    Ok(written(alloc, &credential)?.as_slice() == canonical)
+    Ok(is_written(alloc, &credential, canonical)?)
 }
 
 /// The number of the text's fault, or 0.
@@ -29,182 +35,183 @@ fn fault_number(alloc: Global, text: &[u8]) -> u64 {
     }
 }
 
-/// Whether the text spells a credential of this canonical spelling, which spells it too, or has the fault of this number.
-fn reads(alloc: Global, text: &[u8], told: &Result<&[u8], u64>) -> Result<bool, CredFault> {
-    match told {
-        Ok(canonical) => {
-            Ok(is_spelled(alloc, text, canonical)? && is_spelled(alloc, canonical, canonical)?)
-        }
-        Err(number) => Ok(fault_number(alloc, text) == *number),
+/// Whether the text spells a credential of this canonical spelling, which spells it too.
+fn reads(alloc: Global, text: &[u8], canonical: &[u8]) -> Result<bool, CredFault> {
+    Ok(is_spelled(alloc, text, canonical)? && is_spelled(alloc, canonical, canonical)?)
+}
+
+/// The text with spaces behind it up to this length.
+fn padded(alloc: Global, text: &[u8], length: usize) -> Result<Vec<u8>, AllocError> {
+    let mut padded = Vec::from_slice(alloc, text)?;
+    padded.resize(length, b' ')?;
+    Ok(padded)
+}
+
+/// Whether the text so padded has the fault of this number, or spells what the text does where the number is 0.
+fn reads_padded(alloc: Global, text: &[u8], length: usize, number: u64) -> Result<bool, CredFault> {
+    let padded = padded(alloc, text, length)?;
+    if number == 0 {
+        is_spelled(alloc, &padded, text)
+    } else {
+        Ok(fault_number(alloc, &padded) == number)
     }
 }
 
-/// What `reads` tells of the text with spaces behind it up to this length.
-fn reads_padded(
-    alloc: Global,
-    text: &[u8],
-    length: usize,
-    told: &Result<&[u8], u64>,
-) -> Result<bool, CredFault> {
-    let mut padded = Vec::from_slice(alloc, text)?;
-    padded.resize(length, b' ')?;
-    reads(alloc, &padded, told)
-}
-
-/// Whether a clone of the parts is equal to them.
-fn are_cloned(parts: &Parts) -> Result<bool, AllocError> {
+/// Whether there are so many parts, and a clone is equal to them.
+fn are_so_many(parts: &Parts, count: usize) -> Result<bool, AllocError> {
     let again = parts.try_clone()?;
-    Ok(again == *parts && again.as_slice().len() == parts.as_slice().len())
+    Ok(again == *parts && [parts.as_slice().len(), again.as_slice().len()] == [count, count])
 }
 
-/// Whether an intersection of so many parts has that many and a clone equal to it, or there is none.
-fn are_held(alloc: Global, count: usize, held: Option<usize>) -> Result<bool, CredFault> {
+/// Whether an intersection of these has so many parts, or there is none where the number is 0.
+fn are_held(alloc: Global, parts: &[Part], held: usize) -> Result<bool, AllocError> {
+    match Parts::make(alloc, parts)? {
+        Some(made) => are_so_many(&made, held),
+        None => Ok(held == 0),
+    }
+}
+
+/// The same of so many times one part, of nine at most.
+fn as_many_are_held(alloc: Global, count: usize, held: usize) -> Result<bool, CredFault> {
     let many = [Part::Ent(Entity::read(b"D")?); 9];
-    match Parts::make(alloc, many.get(..count).unwrap_or_default())? {
-        Some(made) => Ok(held == Some(made.as_slice().len()) && are_cloned(&made)?),
-        None => Ok(held.is_none()),
+    Ok(are_held(alloc, many.get(..count).unwrap_or_default(), held)?)
+}
+
+/// The intersection of these parts.
+pub(super) fn made_of(alloc: Global, parts: &[Part]) -> Result<Parts, CredFault> {
+    match Parts::make(alloc, parts) {
+        Ok(Some(made)) => Ok(made),
+        Ok(None) => Err(CredFault::Parts),
+        Err(_) => Err(CredFault::Memory),
     }
 }
 
 /// The linked role over this base.
-fn linked(base: &[u8]) -> Result<Part, CredFault> {
-    Ok(Part::Link(Role::read(base)?, RoleName::read(b"t")?))
-}
-
-/// The body that is linked over one base, or an intersection of two that are.
-fn body_over(alloc: Global, bases: &[&[u8]]) -> Result<Option<Expr>, CredFault> {
-    match bases {
-        [base] => Ok(Some(linked(base)?.expr())),
-        [base, other] => {
-            let parts = Parts::make(alloc, &[linked(base)?, linked(other)?])?;
-            Ok(parts.map(Expr::Meet))
-        }
-        _ => Ok(None),
+fn linked(base: &[u8]) -> Result<Part, NameFault> {
+    match (Role::read(base), RoleName::read(b"t")) {
+        (Ok(base), Ok(name)) => Ok(Part::Link(base, name)),
+        _ => Err(NameFault::NotRole),
     }
 }
 
+/// The body that is linked over one base, or an intersection of two that are, where these are two.
+fn body_over(alloc: Global, base: &[u8], other: &[u8]) -> Result<Expr, CredFault> {
+    let first = linked(base)?;
+    if other.is_empty() {
+        return Ok(first.expr());
+    }
+    let second = linked(other)?;
+    Ok(Expr::Meet(made_of(alloc, &[first, second])?))
+}
+
 /// Whether there is a credential of the head `A.r` over these bases, as is told.
-fn is_made(alloc: Global, bases: &[&[u8]], told: bool) -> Result<bool, CredFault> {
-    let Some(body) = body_over(alloc, bases)? else {
-        return Ok(false);
-    };
-    Ok(Credential::make(Role::read(b"A.r")?, body).is_some() == told)
+fn is_made(alloc: Global, base: &[u8], other: &[u8], told: bool) -> Result<bool, CredFault> {
+    let head = Role::read(b"A.r")?;
+    let body = body_over(alloc, base, other)?;
+    Ok(Credential::make(head, body).is_some() == told)
 }
 
 /// What is looked at.
 enum Line {
-    /// A text: the canonical spelling of its credential, or the number of its fault.
-    Reads(&'static [u8], Result<&'static [u8], u64>),
-    /// A text that gets spaces behind it up to this length: its canonical spelling, or the number of its fault.
-    Padded(&'static [u8], usize, Result<&'static [u8], u64>),
+    /// A text, and the canonical spelling of its credential.
+    Reads(&'static [u8], &'static [u8]),
+    /// A text that spells no credential, and the number of its fault.
+    Refused(&'static [u8], u64),
+    /// A text that gets spaces behind it up to this length, and the number of its fault then; or 0, where it is a canonical spelling.
+    Padded(&'static [u8], usize, u64),
     /// A fault, its number and its text.
     Fault(CredFault, u64, &'static str),
-    /// So many parts, and how many an intersection of them has, if there is one.
-    Parts(usize, Option<usize>),
-    /// The bases of linked roles, and whether a credential of `A.r` may have them.
-    Made(&'static [&'static [u8]], bool),
+    /// So many parts, and how many an intersection of them has, or 0 where there is none.
+    Parts(usize, usize),
+    /// The base of a linked role, or those of two, and whether a credential of `A.r` may have them.
+    Made(&'static [u8], &'static [u8], bool),
 }
 
-use Line::{Fault, Made, Padded, Reads};
+use Line::{Fault, Made, Padded, Reads, Refused};
 
 fn is_so(alloc: Global, line: &Line) -> Result<bool, CredFault> {
     match line {
-        Reads(text, told) => reads(alloc, text, told),
-        Padded(text, length, told) => reads_padded(alloc, text, *length, told),
+        Reads(text, canonical) => reads(alloc, text, canonical),
+        Refused(text, number) => Ok(fault_number(alloc, text) == *number),
+        Padded(text, length, number) => reads_padded(alloc, text, *length, *number),
         Fault(fault, number, text) => {
             Ok(fault.number() == *number && is_text(alloc, fault, text)?)
         }
-        Line::Parts(count, held) => are_held(alloc, *count, *held),
-        Made(bases, told) => is_made(alloc, bases, *told),
+        Line::Parts(count, held) => as_many_are_held(alloc, *count, *held),
+        Made(base, other, told) => is_made(alloc, base, other, *told),
     }
 }
 
-fn all_so(alloc: Global, lines: &[Line]) -> Result<bool, CredFault> {
-    for line in lines {
-        if !is_so(alloc, line)? {
-            return Ok(false);
-        }
-    }
-    Ok(true)
-}
-
-/// The last has names of 64 bytes.
-static SPELLED: [Line; 15] = [
-    Reads(b" A.r<-B.s&C ", Ok(b"A.r <- B.s & C")),
-    Reads(b"A.r <- A.s.t & D", Ok(b"A.r <- A.s.t & D")),
-    Reads(b"A.r<-A.s.t", Ok(b"A.r <- A.s.t")),
-    Reads(b"A.r <- B&B", Ok(b"A.r <- B & B")),
-    Reads(b"A.r <- C&B.s", Ok(b"A.r <- C & B.s")),
+static LINES: [Line; 72] = [
+    // Credentials; the last has a name of 64 bytes.
+    Reads(b" A.r<-B.s&C ", b"A.r <- B.s & C"),
+    Reads(b"A.r <- A.s.t & D", b"A.r <- A.s.t & D"),
+    Reads(b"A.r<-A.s.t", b"A.r <- A.s.t"),
+    Reads(b"A.r <- B&B", b"A.r <- B & B"),
+    Reads(b"A.r <- C&B.s", b"A.r <- C & B.s"),
     Reads(
         b"A.r<-  A.s.t  &  A.s.u  &  B  ",
-        Ok(b"A.r <- A.s.t & A.s.u & B"),
+        b"A.r <- A.s.t & A.s.u & B",
     ),
     Reads(
         b"A.r<-B&C&D&E&F&G&H&I",
-        Ok(b"A.r <- B & C & D & E & F & G & H & I"),
+        b"A.r <- B & C & D & E & F & G & H & I",
     ),
-    Reads(b"A.r <- A.r.r", Ok(b"A.r <- A.r.r")),
-    Reads(b" A.r<-B.s ", Ok(b"A.r <- B.s")),
-    Reads(b"A.r <- D", Ok(b"A.r <- D")),
-    Reads(b"   A.r   <-   D   ", Ok(b"A.r <- D")),
-    Reads(b"A-1.r_2<-Bob.friend", Ok(b"A-1.r_2 <- Bob.friend")),
-    Reads(b"a.r <- A", Ok(b"a.r <- A")),
-    Reads(b"A.r- <- D-", Ok(b"A.r- <- D-")),
+    Reads(b"A.r <- A.r.r", b"A.r <- A.r.r"),
+    Reads(b" A.r<-B.s ", b"A.r <- B.s"),
+    Reads(b"A.r <- D", b"A.r <- D"),
+    Reads(b"   A.r   <-   D   ", b"A.r <- D"),
+    Reads(b"A-1.r_2<-Bob.friend", b"A-1.r_2 <- Bob.friend"),
+    Reads(b"a.r <- A", b"a.r <- A"),
+    Reads(b"A.r- <- D-", b"A.r- <- D-"),
     Reads(
         b"A.r <- xxxxxxxxxxxxxxxxxxxxxxxxxxxxxxxxxxxxxxxxxxxxxxxxxxxxxxxxxxxxxxxx",
-        Ok(b"A.r <- xxxxxxxxxxxxxxxxxxxxxxxxxxxxxxxxxxxxxxxxxxxxxxxxxxxxxxxxxxxxxxxx"),
+        b"A.r <- xxxxxxxxxxxxxxxxxxxxxxxxxxxxxxxxxxxxxxxxxxxxxxxxxxxxxxxxxxxxxxxx",
     ),
-];
-
-static REFUSED: [Line; 16] = [
-    Reads(b"", Err(21)),
-    Reads(b"A.r = D", Err(21)),
-    Reads(b"A.r < - D", Err(21)),
-    Reads(b"A <- D", Err(22)),
-    Reads(b"A.r.s <- D", Err(22)),
-    Reads(b"<- D", Err(22)),
-    Reads(b"A. <- D", Err(11)),
-    Reads(b".r <- D", Err(11)),
-    Reads(b"9.r <- D", Err(12)),
-    Reads(b"A b.r <- D", Err(13)),
-    Reads(b"A.r <- D <- E", Err(13)),
-    Reads(b"9.r! <-", Err(12)),
-    Reads(b"A.r <-", Err(23)),
-    Reads(b"A.r <-   ", Err(23)),
-    Reads(b"A.r <- A.b.c.d", Err(24)),
-    Reads(b"A.r <- 9.b.c.d", Err(24)),
-];
-
-/// The last has a name of 65 bytes.
-static REFUSED_BODIES: [Line; 19] = [
-    Reads(b"A.r <- D & A.b.c.d", Err(24)),
-    Reads(b"A.r <- B &", Err(26)),
-    Reads(b"A.r <- & B", Err(26)),
-    Reads(b"A.r <- B & & C", Err(26)),
-    Reads(b"A.r <- &", Err(26)),
-    Reads(b"A.r <- 9 &", Err(26)),
-    Reads(b"A.r <- B&C&D&E&F&G&H&I&J", Err(26)),
-    Reads(b"A.r <- 9&C&D&E&F&G&H&I&J", Err(26)),
-    Reads(b"A.r <- D & B.s.t", Err(25)),
-    Reads(b"A.r <- B.s.t", Err(25)),
-    Reads(b"A.r <- B.s.9", Err(12)),
-    Reads(b"A.r <- B.s.t & 9", Err(25)),
-    Reads(b"A.r <- 9 & B.s.t", Err(12)),
-    Reads(b"A.r <- A.s.", Err(11)),
-    Reads(b"A.r <- A..t", Err(11)),
-    Reads(b"A.r <- A.s.t u", Err(13)),
-    Reads(b"A.r <- 9.s", Err(12)),
-    Reads(b"A.r <- B . s", Err(13)),
-    Reads(
+    // What isn't a credential, by its head or by how it is cut.
+    Refused(b"", 21),
+    Refused(b"A.r = D", 21),
+    Refused(b"A.r < - D", 21),
+    Refused(b"A <- D", 22),
+    Refused(b"A.r.s <- D", 22),
+    Refused(b"<- D", 22),
+    Refused(b"A. <- D", 11),
+    Refused(b".r <- D", 11),
+    Refused(b"9.r <- D", 12),
+    Refused(b"A b.r <- D", 13),
+    Refused(b"A.r <- D <- E", 13),
+    Refused(b"9.r! <-", 12),
+    Refused(b"A.r <-", 23),
+    Refused(b"A.r <-   ", 23),
+    Refused(b"A.r <- A.b.c.d", 24),
+    Refused(b"A.r <- 9.b.c.d", 24),
+    // Bodies; the last has a name of 65 bytes.
+    Refused(b"A.r <- D & A.b.c.d", 24),
+    Refused(b"A.r <- B &", 26),
+    Refused(b"A.r <- & B", 26),
+    Refused(b"A.r <- B & & C", 26),
+    Refused(b"A.r <- &", 26),
+    Refused(b"A.r <- 9 &", 26),
+    Refused(b"A.r <- B&C&D&E&F&G&H&I&J", 26),
+    Refused(b"A.r <- 9&C&D&E&F&G&H&I&J", 26),
+    Refused(b"A.r <- D & B.s.t", 25),
+    Refused(b"A.r <- B.s.t", 25),
+    Refused(b"A.r <- B.s.9", 12),
+    Refused(b"A.r <- B.s.t & 9", 25),
+    Refused(b"A.r <- 9 & B.s.t", 12),
+    Refused(b"A.r <- A.s.", 11),
+    Refused(b"A.r <- A..t", 11),
+    Refused(b"A.r <- A.s.t u", 13),
+    Refused(b"A.r <- 9.s", 12),
+    Refused(b"A.r <- B . s", 13),
+    Refused(
         b"A.r <- xxxxxxxxxxxxxxxxxxxxxxxxxxxxxxxxxxxxxxxxxxxxxxxxxxxxxxxxxxxxxxxxx",
-        Err(14),
+        14,
     ),
-];
-
-static OTHERS: [Line; 22] = [
-    Padded(b"A.r <- D", 4096, Ok(b"A.r <- D")),
-    Padded(b"A.r <- D", 4097, Err(27)),
-    Padded(b"A.r", 4097, Err(27)),
+    // Lengths, faults, parts and bases.
+    Padded(b"A.r <- D", 4096, 0),
+    Padded(b"A.r <- D", 4097, 27),
+    Padded(b"A.r", 4097, 27),
     Fault(CredFault::NoArrow, 21, "no arrow"),
     Fault(CredFault::Head, 22, "head"),
     Fault(CredFault::BodyEmpty, 23, "empty body"),
@@ -214,35 +221,34 @@ static OTHERS: [Line; 22] = [
     Fault(CredFault::Long, 27, "credential too long"),
     Fault(CredFault::Name(NameFault::Byte), 13, "name byte"),
     Fault(CredFault::Memory, 90, "memory"),
-    Line::Parts(0, None),
-    Line::Parts(1, None),
-    Line::Parts(2, Some(2)),
-    Line::Parts(3, Some(3)),
-    Line::Parts(8, Some(8)),
-    Line::Parts(9, None),
-    Made(&[b"A.s"], true),
-    Made(&[b"B.s"], false),
-    Made(&[b"A.s", b"A.s"], true),
-    Made(&[b"A.s", b"B.s"], false),
+    Line::Parts(0, 0),
+    Line::Parts(1, 0),
+    Line::Parts(2, 2),
+    Line::Parts(3, 3),
+    Line::Parts(8, 8),
+    Line::Parts(9, 0),
+    Made(b"A.s", b"", true),
+    Made(b"B.s", b"", false),
+    Made(b"A.s", b"A.s", true),
+    Made(b"A.s", b"B.s", false),
 ];
 
 #[test]
 fn texts_faults_parts_and_bases(rt: HostRuntime) -> Result<(), CredFault> {
-    let tables: [&[Line]; 4] = [&SPELLED, &REFUSED, &REFUSED_BODIES, &OTHERS];
-    for lines in tables {
-        assert!(rt; all_so(rt.alloc(), lines)?);
+    for line in &LINES {
+        assert!(rt; is_so(rt.alloc(), line)?);
     }
     Ok(())
 }
 
 /// The spelling of a credential of eight linked roles, whose names are of the greatest length.
-fn longest_text(alloc: Global) -> Result<Vec<u8>, CredFault> {
+pub(super) fn longest_text(alloc: Global) -> Result<Vec<u8>, CredFault> {
     let longest = [b'x'; 64];
     let head = Role {
         owner: Entity::read(&longest)?,
         name: RoleName::read(&longest)?,
     };
-    let parts = Parts::make(alloc, &[Part::Link(head, head.name); 8])?.ok_or(CredFault::Parts)?;
+    let parts = made_of(alloc, &[Part::Link(head, head.name); 8])?;
     let credential = Credential::make(head, Expr::Meet(parts)).ok_or(CredFault::LinkBase)?;
     Ok(written(alloc, &credential)?)
 }
@@ -253,12 +259,6 @@ fn longest_is_read(alloc: Global, length: usize) -> Result<bool, CredFault> {
     Ok(text.len() == length && is_spelled(alloc, &text, &text)?)
 }
 
-/// Appends the body of the credential that the text spells.
-fn append_body(alloc: Global, text: &[u8], out: &mut Vec<u8>) -> Result<(), CredFault> {
-    let credential = read_credential(alloc, text)?;
-    Ok(write_expr(&credential.body, out)?)
-}
-
 /// Credentials, and what is written once their bodies are appended in turn.
 static APPENDED: [(&[u8], &[u8]); 3] = [
     (b"A.r <- B.s", b"in B.s"),
@@ -266,16 +266,37 @@ static APPENDED: [(&[u8], &[u8]); 3] = [
     (b"A.r <- A.s.t & B.s", b"in B.sDA.s.t & B.s"),
 ];
 
+/// Whether this is what is written once the body is appended.
+fn is_appended(expr: &Expr, out: &mut Vec<u8>, all: &[u8]) -> Result<bool, AllocError> {
+    write_expr(expr, out)?;
+    Ok(out.as_slice() == all)
+}
+
+/// Whether this is what is written once the body of the credential that the text spells is appended.
+fn body_is_appended(
+    alloc: Global,
+    text: &[u8],
+    out: &mut Vec<u8>,
+    all: &[u8],
+) -> Result<bool, CredFault> {
+    let credential = read_credential(alloc, text)?;
+    Ok(is_appended(&credential.body, out, all)?)
+}
+
 /// Whether what stood there stays before each body that is appended.
-fn are_appended(alloc: Global) -> Result<bool, CredFault> {
-    let mut out = Vec::from_slice(alloc, b"in ")?;
+fn all_are_appended(alloc: Global, out: &mut Vec<u8>) -> Result<bool, CredFault> {
     for (text, all) in &APPENDED {
-        append_body(alloc, text, &mut out)?;
-        if out.as_slice() != *all {
+        if !body_is_appended(alloc, text, out, all)? {
             return Ok(false);
         }
     }
     Ok(true)
+}
+
+/// The same behind a word.
+fn are_appended(alloc: Global) -> Result<bool, CredFault> {
+    let mut out = Vec::from_slice(alloc, b"in ")?;
+    all_are_appended(alloc, &mut out)
 }
 
 static IN_ORDER: [&[u8]; 15] = [
@@ -329,17 +350,36 @@ fn is_cloned(credential: &Credential) -> Result<bool, AllocError> {
     Ok(again.compare(credential).is_eq() && body == credential.body)
 }
 
-/// Whether expressions serve as keys: each body's place is found by it, and clones are equal.
-fn are_keys(places: &mut HashMap<Expr, usize>, all: &[Credential]) -> Result<bool, AllocError> {
+/// Keeps the place of each body by it.
+fn keep_places(places: &mut HashMap<Expr, usize>, all: &[Credential]) -> Result<(), AllocError> {
     for (place, credential) in all.iter().enumerate() {
         places.insert(credential.body.try_clone()?, place)?;
     }
+    Ok(())
+}
+
+/// Whether this place is found by the body.
+fn is_found(places: &HashMap<Expr, usize>, body: &Expr, place: usize) -> bool {
+    match places.get(body) {
+        Some(found) => *found == place,
+        None => false,
+    }
+}
+
+/// Whether each body's place is found by it, and clones are equal.
+fn are_found(places: &HashMap<Expr, usize>, all: &[Credential]) -> Result<bool, AllocError> {
     for (place, credential) in all.iter().enumerate() {
-        if places.get(&credential.body) != Some(&place) || !is_cloned(credential)? {
+        if !is_found(places, &credential.body, place) || !is_cloned(credential)? {
             return Ok(false);
         }
     }
     Ok(places.len() == all.len())
+}
+
+/// Whether expressions serve as keys.
+fn are_keys(places: &mut HashMap<Expr, usize>, all: &[Credential]) -> Result<bool, AllocError> {
+    keep_places(places, all)?;
+    are_found(places, all)
 }
 
 /// Whether credentials are written, ordered, and found in these.

@@ -4,22 +4,35 @@ use names::{Entity, NameFault, Role, RoleName};
 use std::alloc::{AllocError, Global};
 use std::cmp::Ordering;
 
-/// Whether the text is a name where the number is 0, and kept whole, and else has the fault of this number: as an entity
-/// and as the name of a role.
-fn reads_name(text: &[u8], number: u64) -> bool {
-    match (Entity::read(text), RoleName::read(text)) {
-        (Ok(entity), Ok(name)) => number == 0 && entity.bytes() == text && name.bytes() == text,
-        (Err(fault), Err(same)) => fault.number() == number && same == fault,
-        _ => false,
+/// Whether the text is an entity's name where the number is 0, and kept whole, and else has the fault of this number.
+fn reads_entity(text: &[u8], number: u64) -> bool {
+    match Entity::read(text) {
+        Ok(entity) => number == 0 && entity.bytes() == text,
+        Err(fault) => fault.number() == number,
     }
 }
 
-/// Whether the text is a role of this owner and this name, or has the fault of this number.
-fn reads_role(text: &[u8], told: &Result<(&[u8], &[u8]), u64>) -> bool {
-    match (Role::read(text), told) {
-        (Ok(role), Ok((owner, name))) => role.owner.bytes() == *owner && role.name.bytes() == *name,
-        (Err(fault), Err(number)) => fault.number() == *number,
-        _ => false,
+/// The same of the name of a role.
+fn reads_role_name(text: &[u8], number: u64) -> bool {
+    match RoleName::read(text) {
+        Ok(name) => number == 0 && name.bytes() == text,
+        Err(fault) => fault.number() == number,
+    }
+}
+
+/// Whether the text is a role of this owner and this name.
+fn reads_role(text: &[u8], owner: &[u8], name: &[u8]) -> bool {
+    match Role::read(text) {
+        Ok(role) => role.owner.bytes() == owner && role.name.bytes() == name,
+        Err(_) => false,
+    }
+}
+
+/// Whether the text is no role, by the fault of this number.
+fn is_no_role(text: &[u8], number: u64) -> bool {
+    match Role::read(text) {
+        Ok(_) => false,
+        Err(fault) => fault.number() == number,
     }
 }
 
@@ -35,8 +48,10 @@ fn are_ordered(role: &[u8], other: &[u8], order: Ordering) -> bool {
 enum Line {
     /// A text as a name: 0, or the number of its fault.
     Name(&'static [u8], u64),
-    /// A text as a role: its owner and its name, or the number of its fault.
-    Role(&'static [u8], Result<(&'static [u8], &'static [u8]), u64>),
+    /// A text as a role: its owner and its name.
+    Role(&'static [u8], &'static [u8], &'static [u8]),
+    /// A text that is no role, and the number of its fault.
+    NoRole(&'static [u8], u64),
     /// Two roles, and their order.
     Order(&'static [u8], &'static [u8], Ordering),
     /// A fault, its number and its text.
@@ -49,12 +64,13 @@ enum Line {
     Blank(&'static [u8], bool),
 }
 
-use Line::{Blank, Cut, Fault, Name, Order, Trimmed};
+use Line::{Blank, Cut, Fault, Name, NoRole, Order, Trimmed};
 
 fn is_so(alloc: Global, line: &Line) -> Result<bool, AllocError> {
     match line {
-        Name(text, number) => Ok(reads_name(text, *number)),
-        Line::Role(text, told) => Ok(reads_role(text, told)),
+        Name(text, number) => Ok(reads_entity(text, *number) && reads_role_name(text, *number)),
+        Line::Role(text, owner, name) => Ok(reads_role(text, owner, name)),
+        NoRole(text, number) => Ok(is_no_role(text, *number)),
         Order(role, other, order) => Ok(are_ordered(role, other, *order)),
         Fault(fault, number, text) => {
             Ok(fault.number() == *number && is_text(alloc, fault, text)?)
@@ -67,8 +83,8 @@ fn is_so(alloc: Global, line: &Line) -> Result<bool, AllocError> {
     }
 }
 
-/// The last two have 64 bytes and 65.
-static NAMES: [Line; 12] = [
+static LINES: [Line; 35] = [
+    // Names; the last two have 64 bytes and 65.
     Name(b"A", 0),
     Name(b"z9_-", 0),
     Name(b"Bob", 0),
@@ -87,31 +103,25 @@ static NAMES: [Line; 12] = [
         b"xxxxxxxxxxxxxxxxxxxxxxxxxxxxxxxxxxxxxxxxxxxxxxxxxxxxxxxxxxxxxxxxx",
         14,
     ),
-];
-
-static ROLES: [Line; 11] = [
-    Line::Role(b"A.r", Ok((b"A", b"r"))),
-    Line::Role(b"", Err(15)),
-    Line::Role(b"A", Err(15)),
-    Line::Role(b"A.r.s", Err(15)),
-    Line::Role(b"..", Err(15)),
-    Line::Role(b".9", Err(11)),
-    Line::Role(b"9.", Err(12)),
-    Line::Role(b"A.", Err(11)),
+    // Roles, and their order.
+    Line::Role(b"A.r", b"A", b"r"),
+    NoRole(b"", 15),
+    NoRole(b"A", 15),
+    NoRole(b"A.r.s", 15),
+    NoRole(b"..", 15),
+    NoRole(b".9", 11),
+    NoRole(b"9.", 12),
+    NoRole(b"A.", 11),
     Order(b"A.z", b"B.a", Ordering::Less),
     Order(b"A.r", b"A.r-", Ordering::Less),
     Order(b"B-.r", b"B.s", Ordering::Greater),
-];
-
-static FAULTS: [Line; 5] = [
+    // Faults.
     Fault(NameFault::Empty, 11, "empty name"),
     Fault(NameFault::Start, 12, "name start"),
     Fault(NameFault::Byte, 13, "name byte"),
     Fault(NameFault::Long, 14, "name too long"),
     Fault(NameFault::NotRole, 15, "not a role"),
-];
-
-static TEXTS: [Line; 7] = [
+    // Texts.
     Cut(b"A.r.s", b"A", Some(b"r.s")),
     Cut(b"A", b"A", None),
     Trimmed(b"  a b\t ", b"a b\t ", b"  a b\t", b"a b\t"),
@@ -123,33 +133,44 @@ static TEXTS: [Line; 7] = [
 
 static IN_ORDER: [&[u8]; 6] = [b"A", b"A-", b"B", b"Ba", b"a", b"b"];
 
+/// Whether the names are ordered so, as entities.
+fn entities_are_ordered(name: &[u8], other: &[u8], order: Ordering) -> bool {
+    match (Entity::read(name), Entity::read(other)) {
+        (Ok(name), Ok(other)) => name.compare(&other) == order,
+        _ => false,
+    }
+}
+
+/// Whether the names are ordered so, as role names.
+fn role_names_are_ordered(name: &[u8], other: &[u8], order: Ordering) -> bool {
+    match (RoleName::read(name), RoleName::read(other)) {
+        (Ok(name), Ok(other)) => name.compare(&other) == order,
+        _ => false,
+    }
+}
+
 /// Whether the names are ordered so, as entities and as role names.
-fn names_are_ordered(name: &[u8], other: &[u8], order: Ordering) -> Result<bool, NameFault> {
-    let entities = Entity::read(name)?.compare(&Entity::read(other)?);
-    let role_names = RoleName::read(name)?.compare(&RoleName::read(other)?);
-    Ok(entities == order && role_names == order)
+fn names_are_ordered(name: &[u8], other: &[u8], order: Ordering) -> bool {
+    entities_are_ordered(name, other, order) && role_names_are_ordered(name, other, order)
 }
 
 /// Whether each two of them are in the order of their places.
-fn are_in_order() -> Result<bool, NameFault> {
+fn are_in_order() -> bool {
     for (i, name) in IN_ORDER.iter().enumerate() {
         for (j, other) in IN_ORDER.iter().enumerate() {
-            if !names_are_ordered(name, other, i.cmp(&j))? {
-                return Ok(false);
+            if !names_are_ordered(name, other, i.cmp(&j)) {
+                return false;
             }
         }
     }
-    Ok(true)
+    true
 }
 
 #[test]
 fn names_roles_faults_texts_and_orders(rt: HostRuntime) -> Result<(), AllocError> {
-    let tables: [&[Line]; 4] = [&NAMES, &ROLES, &FAULTS, &TEXTS];
-    for lines in tables {
-        for line in lines {
-            assert!(rt; is_so(rt.alloc(), line)?);
-        }
+    for line in &LINES {
+        assert!(rt; is_so(rt.alloc(), line)?);
     }
-    assert!(rt; matches!(are_in_order(), Ok(true)));
+    assert!(rt; are_in_order());
     Ok(())
 }

@@ -5,9 +5,9 @@ use crate::{Proof, ProofFault, check_proof, proof_of};
 use credential_text::{Credential, read_credential};
 use names::{Entity, Role};
 use search::{Query, Search, Status};
-use std::alloc::Global;
+use std::alloc::{AllocError, Global};
 use std::test::Fail;
-use vaults::{Book, Change};
+use vaults::{Book, Change, Rows};
 
 const WORK: u64 = 1000000;
 
@@ -152,15 +152,26 @@ fn link_all(alloc: Global, book: &mut Book) -> Result<(), Fail> {
     upload(alloc, book, b"A.r10000 <- D")
 }
 
+/// Appends copies of the credentials.
+fn copy_rows(rows: &Rows<'_>, copy: &mut Vec<Credential>) -> Result<(), AllocError> {
+    for place in 0..rows.len() {
+        copy.push(rows.row(place).credential().try_clone()?)?;
+    }
+    Ok(())
+}
+
+/// Appends copies of the credentials that the tenant issues and holds, in order.
+fn copy_vault(book: &mut Book, who: Entity, copy: &mut Vec<Credential>) -> Result<(), Fail> {
+    if let Some(version) = book.version_of(who)? {
+        copy_rows(&version.rows(), copy)?;
+    }
+    Ok(())
+}
+
 /// A copy of the credentials that the tenant issues and holds, in order.
 fn vault_of(alloc: Global, book: &mut Book, who: Entity) -> Result<Vec<Credential>, Fail> {
     let mut copy = Vec::new(alloc);
-    if let Some(version) = book.version_of(who)? {
-        let rows = version.rows();
-        for place in 0..rows.len() {
-            copy.push(rows.row(place).credential().try_clone()?)?;
-        }
-    }
+    copy_vault(book, who, &mut copy)?;
     Ok(copy)
 }
 
@@ -173,10 +184,14 @@ fn proves_the_whole_chain(alloc: Global, book: &mut Book) -> Result<bool, Fail> 
     Ok(proof.steps().len() == 10002 && check_proof(&view, &role, &who, &proof))
 }
 
+fn chain_is_proved(alloc: Global) -> Result<bool, Fail> {
+    let mut book = Book::new(alloc);
+    link_all(alloc, &mut book)?;
+    proves_the_whole_chain(alloc, &mut book)
+}
+
 #[test]
 fn a_chain_of_inclusions(rt: HostRuntime) -> Result<(), Fail> {
-    let mut book = Book::new(rt.alloc());
-    link_all(rt.alloc(), &mut book)?;
-    assert!(rt; proves_the_whole_chain(rt.alloc(), &mut book)?);
+    assert!(rt; chain_is_proved(rt.alloc())?);
     Ok(())
 }

@@ -16,12 +16,17 @@ use Told::{Members, Work};
 
 /// Whether the entities have these names, in this order.
 fn are_named(entities: &[Entity], names: &[&[u8]]) -> bool {
-    for (entity, name) in entities.iter().zip(names) {
+    let mut rest = names;
+    for entity in entities {
+        let [name, behind @ ..] = rest else {
+            return false;
+        };
         if entity.bytes() != *name {
             return false;
         }
+        rest = behind;
     }
-    entities.len() == names.len()
+    rest.is_empty()
 }
 
 fn has_members(
@@ -54,15 +59,6 @@ fn is_so(alloc: Global, texts: &[&[u8]], told: &Told) -> Result<bool, CredFault>
     }
 }
 
-fn all_so(alloc: Global, lines: &[Line]) -> Result<bool, CredFault> {
-    for (texts, told) in lines {
-        if !is_so(alloc, texts, told)? {
-            return Ok(false);
-        }
-    }
-    Ok(true)
-}
-
 const CHAIN: &[&[u8]] = &[
     b"A.r <- B.s",
     b"B.s <- C.t",
@@ -88,14 +84,11 @@ const WITH_AN_ENTITY: &[&[u8]] = &[
 
 const WITH_A_LINKED_ROLE: &[&[u8]] = &[b"A.r <- A.s.t & D", b"A.s <- B", b"B.t <- D", b"B.t <- E"];
 
-/// Nobody is a member without credentials.
-static NOBODY: [Line; 2] = [
+static LINES: [Line; 25] = [
+    // Nobody is a member without credentials.
     (&[], Members(b"A.r", &[])),
     (&[b"A.s <- D", b"B.r <- E"], Members(b"A.r", &[])),
-];
-
-/// Entities are listed in order, and once.
-static ENTITIES: [Line; 2] = [
+    // Entities are listed in order, and once.
     (&[b"A.r <- D", b"A.r <- A"], Members(b"A.r", &[b"A", b"D"])),
     (
         &[
@@ -107,26 +100,17 @@ static ENTITIES: [Line; 2] = [
         ],
         Members(b"A.r", &[b"A", b"B", b"D", b"Da"]),
     ),
-];
-
-/// Inclusions are followed along a chain.
-static CHAINED: [Line; 2] = [
+    // Inclusions are followed along a chain.
     (CHAIN, Members(b"A.r", &[b"E", b"F"])),
     (CHAIN, Members(b"C.t", &[b"E"])),
-];
-
-/// Inclusions in a circle give nobody.
-static CIRCLES: [Line; 3] = [
+    // Inclusions in a circle give nobody.
     (&[b"A.r <- B.s", b"B.s <- A.r"], Members(b"A.r", &[])),
     (&[b"A.r <- A.r"], Members(b"A.r", &[])),
     (
         &[b"A.r <- B.s", b"B.s <- A.r", b"B.s <- D"],
         Members(b"A.r", &[b"D"]),
     ),
-];
-
-/// A linked role asks the members of its base: over a base of another name; over its own head; and passed on.
-static LINKED: [Line; 3] = [
+    // A linked role asks the members of its base: over a base of another name; over its own head; and passed on.
     (
         &[
             b"A.r <- A.s.t",
@@ -145,20 +129,14 @@ static LINKED: [Line; 3] = [
         &[b"A.r <- A", b"A.r <- A.r.s", b"A.s <- E"],
         Members(b"A.r", &[b"A", b"E"]),
     ),
-];
-
-/// An intersection wants every part.
-static INTERSECTIONS: [Line; 5] = [
+    // An intersection wants every part.
     (ROLES, Members(b"A.two", &[b"E"])),
     (ROLES, Members(b"A.same", &[b"D", b"E"])),
     (WITH_AN_ENTITY, Members(b"A.one", &[b"D"])),
     (WITH_AN_ENTITY, Members(b"A.none", &[])),
     (WITH_A_LINKED_ROLE, Members(b"A.r", &[b"D"])),
-];
-
-/// Work is one, and each ask and each member told: with no credentials; with one, once and twice; in a circle; with a role
-/// in itself; with a repeated part; with a linked role, and with one over its own head.
-static WORKS: [Line; 8] = [
+    // Work is one, and each ask and each member told: with no credentials; with one, once and twice; in a circle; with a role
+    // in itself; with a repeated part; with a linked role, and with one over its own head.
     (&[], Work(1)),
     (&[b"A.r <- D"], Work(3)),
     (&[b"A.r <- D", b"A.r <- D"], Work(3)),
@@ -171,17 +149,8 @@ static WORKS: [Line; 8] = [
 
 #[test]
 fn members_and_works_over_credentials(rt: HostRuntime) -> Result<(), CredFault> {
-    let tables: [&[Line]; 7] = [
-        &NOBODY,
-        &ENTITIES,
-        &CHAINED,
-        &CIRCLES,
-        &LINKED,
-        &INTERSECTIONS,
-        &WORKS,
-    ];
-    for lines in tables {
-        assert!(rt; all_so(rt.alloc(), lines)?);
+    for (texts, told) in &LINES {
+        assert!(rt; is_so(rt.alloc(), texts, told)?);
     }
     Ok(())
 }

@@ -67,7 +67,11 @@ fn read_all(d: &Diffusion<u64>) -> u64 {
 
 // Letters to these nodes, each with its node's number as its load.
 fn collect_letters(alloc: Global, nodes: &[u64]) -> Result<Vec<(u64, u64)>, AllocError> {
-    nodes.iter().map(|node| (*node, *node)).collect(alloc)
+    let mut letters = Vec::with_capacity(alloc, nodes.len())?;
+    for node in nodes {
+        letters.push((*node, *node))?;
+    }
+    Ok(letters)
 }
 
 // Letters to these nodes, collected once more where memory is refused.
@@ -175,97 +179,92 @@ const ENVIRONMENT: Parent = Parent::Environment;
 
 const NEUTRAL: Parent = Parent::Neutral;
 
-static THERE_AND_BACK: [(Deed, Counts); 17] = [
-    (Take(0, 1), [1, 0, 0, 1]),
-    (Finish(1, &[1]), [2, 1, 0, 1]),
-    (Node(0, ENVIRONMENT, 1), [2, 1, 0, 1]),
-    (Take(0, 2), [2, 0, 0, 1]),
-    (Finish(2, &[0]), [3, 1, 0, 1]),
-    (Node(1, Parent::Node(0), 1), [3, 1, 0, 1]),
-    (Node(0, ENVIRONMENT, 1), [3, 1, 0, 1]),
-    (Take(0, 3), [3, 0, 0, 1]),
-    (PutBack(3), [3, 1, 0, 1]),
-    (Take(0, 3), [3, 0, 0, 1]),
-    (Finish(3, &[]), [3, 0, 1, 1]),
-    (Node(1, Parent::Node(0), 1), [3, 0, 1, 1]),
-    (Signal(0), [3, 0, 1, 1]),
-    (Node(1, NEUTRAL, 0), [3, 0, 1, 1]),
-    (Signal(0), [3, 0, 1, 1]),
-    (Node(0, NEUTRAL, 0), [3, 0, 1, 1]),
-    (Signal(0), [3, 0, 0, 0]),
-];
-
-// A node writes to itself.
-static TO_ITSELF: [(Deed, Counts); 8] = [
-    (Take(0, 1), [1, 0, 0, 1]),
-    (Finish(1, &[0]), [2, 1, 0, 1]),
-    (Take(0, 2), [2, 0, 0, 1]),
-    (Finish(2, &[]), [2, 0, 1, 1]),
-    (Node(0, ENVIRONMENT, 1), [2, 0, 1, 1]),
-    (Signal(0), [2, 0, 1, 1]),
-    (Node(0, NEUTRAL, 0), [2, 0, 1, 1]),
-    (Signal(0), [2, 0, 0, 0]),
-];
-
-// A node is engaged a second time.
-static ENGAGED_AGAIN: [(Deed, Counts); 20] = [
-    (Take(0, 1), [1, 0, 0, 1]),
-    (Finish(1, &[1, 1]), [3, 2, 0, 1]),
-    (Take(0, 2), [3, 1, 0, 1]),
-    (Finish(2, &[2]), [4, 2, 0, 1]),
-    (Node(1, Parent::Node(0), 1), [4, 2, 0, 1]),
-    (Take(1, 4), [4, 1, 0, 1]),
-    (Finish(4, &[]), [4, 1, 1, 1]),
-    (Signal(0), [4, 1, 1, 1]),
-    (Node(1, NEUTRAL, 0), [4, 1, 1, 1]),
-    (Take(0, 3), [4, 0, 1, 1]),
-    (Finish(3, &[2]), [5, 1, 1, 1]),
-    (Node(1, Parent::Node(0), 1), [5, 1, 1, 1]),
-    (Node(0, ENVIRONMENT, 2), [5, 1, 1, 1]),
-    (Take(0, 5), [5, 0, 1, 1]),
-    (Finish(5, &[]), [5, 0, 2, 1]),
-    (Signal(1), [5, 0, 2, 1]),
-    (Signal(0), [5, 0, 1, 1]),
-    (Signal(0), [5, 0, 1, 1]),
-    (Node(0, NEUTRAL, 0), [5, 0, 1, 1]),
-    (Signal(0), [5, 0, 0, 0]),
-];
-
-// Letters are taken at any place. Finished letters leave holes: at the end, between others, and more than half of all.
-static AT_ANY_PLACE: [(Deed, Counts); 22] = [
-    (Take(0, 1), [1, 0, 0, 1]),
-    (Finish(1, &[1, 2, 3, 4, 5]), [6, 5, 0, 1]),
-    (Take(4, 6), [6, 4, 0, 1]),
-    (Take(1, 3), [6, 3, 0, 1]),
-    (Take(1, 4), [6, 2, 0, 1]),
-    (PutBack(3), [6, 3, 0, 1]),
-    (Take(0, 2), [6, 2, 0, 1]),
-    (Take(0, 3), [6, 1, 0, 1]),
-    (PutBack(2), [6, 2, 0, 1]),
-    (Finish(3, &[]), [6, 2, 1, 1]),
-    (Finish(4, &[]), [6, 2, 2, 1]),
-    (Finish(6, &[9, 9]), [8, 4, 2, 1]),
-    (Take(3, 8), [8, 3, 2, 1]),
-    (Take(1, 5), [8, 2, 2, 1]),
-    (Finish(5, &[]), [8, 2, 3, 1]),
-    (PutBack(8), [8, 3, 3, 1]),
-    (Take(0, 2), [8, 2, 3, 1]),
-    (Take(1, 8), [8, 1, 3, 1]),
-    (Finish(8, &[]), [8, 1, 4, 1]),
-    (Take(0, 7), [8, 0, 4, 1]),
-    (Finish(7, &[]), [8, 0, 5, 1]),
-    (Finish(2, &[]), [8, 0, 6, 1]),
+// Deeds from a first letter on, and the computation's counts after each.
+static PLAYS: [&[(Deed, Counts)]; 4] = [
+    // A node writes to another, and that writes back.
+    &[
+        (Take(0, 1), [1, 0, 0, 1]),
+        (Finish(1, &[1]), [2, 1, 0, 1]),
+        (Node(0, ENVIRONMENT, 1), [2, 1, 0, 1]),
+        (Take(0, 2), [2, 0, 0, 1]),
+        (Finish(2, &[0]), [3, 1, 0, 1]),
+        (Node(1, Parent::Node(0), 1), [3, 1, 0, 1]),
+        (Node(0, ENVIRONMENT, 1), [3, 1, 0, 1]),
+        (Take(0, 3), [3, 0, 0, 1]),
+        (PutBack(3), [3, 1, 0, 1]),
+        (Take(0, 3), [3, 0, 0, 1]),
+        (Finish(3, &[]), [3, 0, 1, 1]),
+        (Node(1, Parent::Node(0), 1), [3, 0, 1, 1]),
+        (Signal(0), [3, 0, 1, 1]),
+        (Node(1, NEUTRAL, 0), [3, 0, 1, 1]),
+        (Signal(0), [3, 0, 1, 1]),
+        (Node(0, NEUTRAL, 0), [3, 0, 1, 1]),
+        (Signal(0), [3, 0, 0, 0]),
+    ],
+    // A node writes to itself.
+    &[
+        (Take(0, 1), [1, 0, 0, 1]),
+        (Finish(1, &[0]), [2, 1, 0, 1]),
+        (Take(0, 2), [2, 0, 0, 1]),
+        (Finish(2, &[]), [2, 0, 1, 1]),
+        (Node(0, ENVIRONMENT, 1), [2, 0, 1, 1]),
+        (Signal(0), [2, 0, 1, 1]),
+        (Node(0, NEUTRAL, 0), [2, 0, 1, 1]),
+        (Signal(0), [2, 0, 0, 0]),
+    ],
+    // A node is engaged a second time.
+    &[
+        (Take(0, 1), [1, 0, 0, 1]),
+        (Finish(1, &[1, 1]), [3, 2, 0, 1]),
+        (Take(0, 2), [3, 1, 0, 1]),
+        (Finish(2, &[2]), [4, 2, 0, 1]),
+        (Node(1, Parent::Node(0), 1), [4, 2, 0, 1]),
+        (Take(1, 4), [4, 1, 0, 1]),
+        (Finish(4, &[]), [4, 1, 1, 1]),
+        (Signal(0), [4, 1, 1, 1]),
+        (Node(1, NEUTRAL, 0), [4, 1, 1, 1]),
+        (Take(0, 3), [4, 0, 1, 1]),
+        (Finish(3, &[2]), [5, 1, 1, 1]),
+        (Node(1, Parent::Node(0), 1), [5, 1, 1, 1]),
+        (Node(0, ENVIRONMENT, 2), [5, 1, 1, 1]),
+        (Take(0, 5), [5, 0, 1, 1]),
+        (Finish(5, &[]), [5, 0, 2, 1]),
+        (Signal(1), [5, 0, 2, 1]),
+        (Signal(0), [5, 0, 1, 1]),
+        (Signal(0), [5, 0, 1, 1]),
+        (Node(0, NEUTRAL, 0), [5, 0, 1, 1]),
+        (Signal(0), [5, 0, 0, 0]),
+    ],
+    // Letters are taken at any place. Finished letters leave holes: at the end, between others, and more than half of all.
+    &[
+        (Take(0, 1), [1, 0, 0, 1]),
+        (Finish(1, &[1, 2, 3, 4, 5]), [6, 5, 0, 1]),
+        (Take(4, 6), [6, 4, 0, 1]),
+        (Take(1, 3), [6, 3, 0, 1]),
+        (Take(1, 4), [6, 2, 0, 1]),
+        (PutBack(3), [6, 3, 0, 1]),
+        (Take(0, 2), [6, 2, 0, 1]),
+        (Take(0, 3), [6, 1, 0, 1]),
+        (PutBack(2), [6, 2, 0, 1]),
+        (Finish(3, &[]), [6, 2, 1, 1]),
+        (Finish(4, &[]), [6, 2, 2, 1]),
+        (Finish(6, &[9, 9]), [8, 4, 2, 1]),
+        (Take(3, 8), [8, 3, 2, 1]),
+        (Take(1, 5), [8, 2, 2, 1]),
+        (Finish(5, &[]), [8, 2, 3, 1]),
+        (PutBack(8), [8, 3, 3, 1]),
+        (Take(0, 2), [8, 2, 3, 1]),
+        (Take(1, 8), [8, 1, 3, 1]),
+        (Finish(8, &[]), [8, 1, 4, 1]),
+        (Take(0, 7), [8, 0, 4, 1]),
+        (Finish(7, &[]), [8, 0, 5, 1]),
+        (Finish(2, &[]), [8, 0, 6, 1]),
+    ],
 ];
 
 #[test]
 fn deeds_go_as_they_are_to(rt: HostRuntime) -> Result<(), AllocError> {
-    let tables: [&[(Deed, Counts)]; 4] = [
-        &THERE_AND_BACK,
-        &TO_ITSELF,
-        &ENGAGED_AGAIN,
-        &AT_ANY_PLACE,
-    ];
-    for deeds in tables {
+    for deeds in &PLAYS {
         assert!(rt; play(rt.alloc(), deeds)?);
     }
     Ok(())

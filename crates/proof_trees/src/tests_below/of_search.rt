@@ -12,7 +12,7 @@ use snapshots::Snapshot;
 use std::alloc::{AllocError, Global};
 use std::sync::Arc;
 use std::test::Fail;
-use vaults::{Book, Change};
+use vaults::{Book, Change, VaultFault};
 
 #[derive(Clone, Copy)]
 enum Order {
@@ -141,10 +141,19 @@ fn grant(book: &mut Book, credentials: &[Credential]) -> Result<(), Fail> {
     Ok(())
 }
 
+// What the tenant reads.
+fn seen_by(alloc: Global, book: &mut Book, who: Entity) -> Result<Arc<Snapshot>, VaultFault> {
+    let snapshot = Snapshot::take(alloc, book, who)?;
+    match Arc::new(alloc, snapshot) {
+        Ok(snapshot) => Ok(snapshot),
+        Err(_refused) => Err(VaultFault::Memory),
+    }
+}
+
 // What `A` reads.
 pub(super) fn seen(alloc: Global, book: &mut Book) -> Result<Arc<Snapshot>, Fail> {
-    let snapshot = Snapshot::take(alloc, book, Entity::read(b"A")?)?;
-    Ok(Arc::new(alloc, snapshot)?)
+    let a = Entity::read(b"A")?;
+    Ok(seen_by(alloc, book, a)?)
 }
 
 // What `A` reads, where each holds its credentials and has granted them to `A`, and so have `B`, `C` and `D`.

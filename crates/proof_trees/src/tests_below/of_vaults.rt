@@ -1,8 +1,9 @@
 use super::is_text;
+use super::of_credential_text::longest_text;
 use credential_text::{CredFault, Credential, read_credential};
 use names::Entity;
 use std::alloc::{AllocError, Global};
-use vaults::{Book, Change, Entries, Rows, Seen, VaultFault, Version};
+use vaults::{Book, Change, Entries, Entry, Rows, Seen, VaultFault, Version};
 
 /// A change, by the spelling of its credential or the name of its reader.
 #[derive(Clone, Copy)]
@@ -28,17 +29,21 @@ fn change_of(alloc: Global, word: &Word) -> Result<Change, CredFault> {
     })
 }
 
-/// What the book answers: the count of an accepted change, or the number of its refusal. Where memory is refused the same
-/// change is tried again, so that a test sees that the refusal changed nothing.
-fn told(book: &mut Book, who: Entity, change: &Change) -> Result<u64, AllocError> {
-    let mut told = book.change(who, change.try_clone()?);
-    if matches!(told, Err(VaultFault::Memory)) {
-        told = book.change(who, change.try_clone()?);
-    }
-    Ok(match told {
+/// The count of an accepted change, or the number of its refusal.
+fn number_of(answer: Result<u64, VaultFault>) -> u64 {
+    match answer {
         Ok(count) => count,
         Err(fault) => fault.number(),
-    })
+    }
+}
+
+/// What the book answers. Where memory is refused the same change is tried again, so that a test sees that the refusal
+/// changed nothing.
+fn told(book: &mut Book, who: Entity, change: &Change) -> u64 {
+    match book.enter(who, change) {
+        Err(VaultFault::Memory) => number_of(book.enter(who, change)),
+        told => number_of(told),
+    }
 }
 
 /// Whether the book answers the tenant's change so.
@@ -50,7 +55,7 @@ fn answers(
     expected: u64,
 ) -> Result<bool, CredFault> {
     let change = change_of(alloc, word)?;
-    Ok(told(book, who, &change)? == expected)
+    Ok(told(book, who, &change) == expected)
 }
 
 /// Whether the text spells this credential.
@@ -61,12 +66,23 @@ fn is_spelled(alloc: Global, credential: &Credential, text: &[u8]) -> Result<boo
 /// Whether the word stands for this change.
 fn is_meant(alloc: Global, change: &Change, word: &Word) -> Result<bool, CredFault> {
     match (change, word) {
-        (Change::Upload(credential), Put(text)) => is_spelled(alloc, credential, text),
-        (Change::Withdraw(credential), Drop(text)) => is_spelled(alloc, credential, text),
-        (Change::Grant(reader), Grant(name)) => Ok(reader.bytes() == *name),
-        (Change::Revoke(reader), Revoke(name)) => Ok(reader.bytes() == *name),
+        (Change::Upload(credential), Put(text)) | (Change::Withdraw(credential), Drop(text)) => {
+            is_spelled(alloc, credential, text)
+        }
+        (Change::Grant(reader), Grant(name)) | (Change::Revoke(reader), Revoke(name)) => {
+            Ok(reader.bytes() == *name)
+        }
         (Change::GrantAll, GrantAll) | (Change::RevokeAll, RevokeAll) => Ok(true),
         _ => Ok(false),
+    }
+}
+
+/// Whether the entry is this change of this tenant.
+fn is_entry(alloc: Global, entry: &Entry, who: &[u8], word: &Word) -> Result<bool, CredFault> {
+    if entry.tenant.bytes() == who {
+        is_meant(alloc, &entry.change, word)
+    } else {
+        Ok(false)
     }
 }
 
@@ -77,21 +93,36 @@ fn reads_next(
     who: &[u8],
     word: &Word,
 ) -> Result<bool, CredFault> {
-    match entries.next().or(Err(CredFault::Memory))? {
-        Some(entry) => Ok(entry.tenant.bytes() == who && is_meant(alloc, &entry.change, word)?),
-        None => Ok(false),
+    match entries.next() {
+        Ok(Some(entry)) => is_entry(alloc, &entry, who, word),
+        Ok(None) => Ok(false),
+        Err(_) => Err(CredFault::Memory),
     }
+}
+
+/// Whether no accepted change is left to be read.
+fn is_read(entries: &mut Entries) -> bool {
+    matches!(entries.next(), Ok(None))
+}
+
+/// Whether these are the accepted changes that are still to be read.
+fn reads_all(
+    alloc: Global,
+    entries: &mut Entries,
+    rows: &[(&[u8], Word)],
+) -> Result<bool, CredFault> {
+    for (who, word) in rows {
+        if !reads_next(alloc, entries, who, word)? {
+            return Ok(false);
+        }
+    }
+    Ok(is_read(entries))
 }
 
 /// Whether these are the accepted changes, read from the oldest on.
 fn reads_back(alloc: Global, book: &Book, rows: &[(&[u8], Word)]) -> Result<bool, CredFault> {
     let mut entries = book.entries();
-    for (who, word) in rows {
-        if !reads_next(alloc, &mut entries, who, word)? {
-            return Ok(false);
-        }
-    }
-    Ok(entries.next().or(Err(CredFault::Memory))?.is_none())
+    reads_all(alloc, &mut entries, rows)
 }
 
 /// Whether these are the rows, in this order.
@@ -106,17 +137,24 @@ fn are_rows(alloc: Global, rows: &Rows<'_>, texts: &[&[u8]]) -> Result<bool, Cre
 
 /// Whether these are the names, in this order, and whether their vaults are public.
 fn are_seen(seen: &[Seen], names: &[(&[u8], bool)]) -> bool {
-    for (seen, (name, to_all)) in seen.iter().zip(names) {
+    let mut rest = names;
+    for seen in seen {
+        let [(name, to_all), behind @ ..] = rest else {
+            return false;
+        };
         if seen.name.bytes() != *name || seen.to_all != *to_all {
             return false;
         }
+        rest = behind;
     }
-    seen.len() == names.len()
+    rest.is_empty()
 }
 
 fn reads(book: &Book, who: Entity, names: &[(&[u8], bool)]) -> Result<bool, CredFault> {
-    let seen = book.owners_read_by(who).or(Err(CredFault::Memory))?;
-    Ok(are_seen(&seen, names))
+    match book.owners_read_by(who) {
+        Ok(seen) => Ok(are_seen(&seen, names)),
+        Err(_) => Err(CredFault::Memory),
+    }
 }
 
 fn digit(number: u64) -> u8 {
@@ -195,12 +233,8 @@ enum Act {
     Reads(&'static [(&'static [u8], bool)]),
     /// Whether the tenant reads the vault of this one.
     Readable(&'static [u8], bool),
-    /// The number of credentials that the tenant holds.
-    Held(u64),
-    /// The number of the tenant's grants that stand.
-    Grants(u64),
-    /// The number of the tenant's accepted changes.
-    Changes(u64),
+    /// How many credentials the tenant holds, how many of its grants stand, and how many of its changes were accepted.
+    Uses([u64; 3]),
     /// The number of all accepted changes.
     Entries(u64),
     /// The accepted changes, from the oldest on.
@@ -214,12 +248,18 @@ enum Act {
 /// A tenant, and what concerns it.
 type Line = (&'static [u8], Act);
 
-/// Whether a version of the vault is as it is to be, where it has one.
-fn has_version(alloc: Global, book: &mut Book, who: Entity, act: &Act) -> Result<bool, CredFault> {
-    match book.version_of(who).or(Err(CredFault::Memory))? {
-        Some(version) => Ok(matches!(act, Act::EvenVersion) && are_even(alloc, &version.rows())?),
-        None => Ok(matches!(act, Act::NoVersion)),
+/// Whether a version of the vault is each second one of the 900.
+fn has_even_rows(alloc: Global, book: &mut Book, who: Entity) -> Result<bool, CredFault> {
+    match book.version_of(who) {
+        Ok(Some(version)) => are_even(alloc, &version.rows()),
+        Ok(None) => Ok(false),
+        Err(_) => Err(CredFault::Memory),
     }
+}
+
+/// Whether the vault has no version.
+fn has_no_version(book: &mut Book, who: Entity) -> bool {
+    matches!(book.version_of(who), Ok(None))
 }
 
 /// Whether these are the rows of the vault, in this order.
@@ -229,9 +269,10 @@ fn has_rows(
     who: Entity,
     texts: &[&[u8]],
 ) -> Result<bool, CredFault> {
-    match book.version_of(who).or(Err(CredFault::Memory))? {
-        Some(version) => are_rows(alloc, &version.rows(), texts),
-        None => Ok(texts.is_empty()),
+    match book.version_of(who) {
+        Ok(Some(version)) => are_rows(alloc, &version.rows(), texts),
+        Ok(None) => Ok(texts.is_empty()),
+        Err(_) => Err(CredFault::Memory),
     }
 }
 
@@ -245,12 +286,14 @@ fn is_so(alloc: Global, book: &mut Book, who: Entity, act: &Act) -> Result<bool,
         Act::Vault(texts) => has_rows(alloc, book, who, texts),
         Act::Reads(names) => reads(book, who, names),
         Act::Readable(owner, told) => Ok(book.readable(who, Entity::read(owner)?) == *told),
-        Act::Held(count) => Ok(book.creds_of(who) == *count),
-        Act::Grants(count) => Ok(book.grants_of(who) == *count),
-        Act::Changes(count) => Ok(book.changes_of(who) == *count),
+        Act::Uses(told) => {
+            let used = book.used_by(&who);
+            Ok([used.creds, used.grants, used.changes] == *told)
+        }
         Act::Entries(count) => Ok(book.journal_len() == *count),
         Act::ReadBack(rows) => reads_back(alloc, book, rows),
-        Act::NoVersion | Act::EvenVersion => has_version(alloc, book, who, act),
+        Act::NoVersion => Ok(has_no_version(book, who)),
+        Act::EvenVersion => has_even_rows(alloc, book, who),
     }
 }
 
@@ -269,165 +312,160 @@ fn all_so_anew(alloc: Global, lines: &[Line]) -> Result<bool, CredFault> {
     all_so(alloc, &mut book, lines)
 }
 
-/// Each refusal, and what the book has come to.
-static REFUSALS: [Line; 16] = [
-    (b"A", Act::Change(Put(b"B.r <- D"), 31)),
-    (b"A", Act::Change(Put(b"A.r <- D"), 1)),
-    (b"A", Act::Change(Put(b"A.r <- D"), 32)),
-    (b"A", Act::Change(Drop(b"B.r <- D"), 31)),
-    (b"A", Act::Change(Drop(b"A.r <- E"), 33)),
-    (b"A", Act::Change(Grant(b"A"), 36)),
-    (b"A", Act::Change(Grant(b"B"), 2)),
-    (b"A", Act::Change(Grant(b"B"), 34)),
-    (b"A", Act::Change(Revoke(b"C"), 35)),
-    (b"A", Act::Change(Revoke(b"A"), 35)),
-    (b"A", Act::Change(Drop(b"A.r <- D"), 3)),
-    (b"A", Act::Change(Drop(b"A.r <- D"), 33)),
-    (b"A", Act::Change(Revoke(b"B"), 4)),
-    (b"A", Act::Change(Revoke(b"B"), 35)),
-    (b"A", Act::Vault(&[])),
-    (b"A", Act::Entries(4)),
-];
-
-/// Changes of every kind, and the journal that they leave.
-static EVERY_KIND: [Line; 10] = [
-    (b"A", Act::ReadBack(&[])),
-    (b"A", Act::Change(Put(b"A.r <- D"), 1)),
-    (b"Bob", Act::Change(Put(b"Bob.r <- A.r"), 1)),
-    (b"A", Act::Change(Grant(b"Bob"), 2)),
-    (b"A", Act::Change(Put(b"B.r <- D"), 31)),
-    (b"A", Act::Change(GrantAll, 3)),
-    (b"A", Act::Change(Revoke(b"Bob"), 4)),
-    (b"A", Act::Change(RevokeAll, 5)),
-    (b"Bob", Act::Change(Drop(b"Bob.r <- A.r"), 2)),
-    (
-        b"A",
-        Act::ReadBack(&[
-            (b"A", Put(b"A.r <- D")),
-            (b"Bob", Put(b"Bob.r <- A.r")),
-            (b"A", Grant(b"Bob")),
-            (b"A", GrantAll),
-            (b"A", Revoke(b"Bob")),
-            (b"A", RevokeAll),
-            (b"Bob", Drop(b"Bob.r <- A.r")),
-        ]),
-    ),
-];
-
-/// Uploads out of order, into the vaults of two tenants.
-static OUT_OF_ORDER: [Line; 10] = [
-    (b"A", Act::Change(Put(b"A.s <- D"), 1)),
-    (b"A", Act::Change(Put(b"A.r- <- D"), 2)),
-    (b"B", Act::Change(Put(b"B.s <- D"), 1)),
-    (b"A", Act::Change(Put(b"A.r <- B.s"), 3)),
-    (b"A", Act::Change(Put(b"A.r <- E"), 4)),
-    (b"A", Act::Change(Put(b"A.q <- E"), 5)),
-    (b"A", Act::Change(Drop(b"A.r- <- D"), 6)),
-    (
-        b"A",
-        Act::Vault(&[b"A.q <- E", b"A.r <- E", b"A.r <- B.s", b"A.s <- D"]),
-    ),
-    (b"B", Act::Vault(&[b"B.s <- D"])),
-    (b"C", Act::Vault(&[])),
-];
-
-/// 900 credentials come and go in no order, and what stays is in order.
-static COME_AND_GO: [Line; 13] = [
-    (b"A", Act::Uploads),
-    (b"A", Act::Withdrawals),
-    (b"A", Act::Change(Put(b"A.r <- E000"), 32)),
-    (b"A", Act::Change(Put(b"A.r <- E450"), 32)),
-    (b"A", Act::Change(Put(b"A.r <- E898"), 32)),
-    (b"A", Act::Change(Drop(b"A.r <- E001"), 33)),
-    (b"A", Act::Change(Drop(b"A.r <- E449"), 33)),
-    (b"A", Act::Change(Drop(b"A.r <- E899"), 33)),
-    (b"A", Act::Held(450)),
-    (b"A", Act::EvenVersion),
-    (b"A", Act::Change(Put(b"A.r <- E451"), 1_351)),
-    (b"A", Act::Change(Drop(b"A.r <- E451"), 1_352)),
-    (b"A", Act::EvenVersion),
-];
-
-/// Grants, and who reads whom by them.
-static GRANTED: [Line; 10] = [
-    (b"C", Act::Change(Grant(b"B"), 1)),
-    (b"A", Act::Change(Grant(b"B"), 1)),
-    (b"A", Act::Change(Grant(b"Z"), 2)),
-    (b"B", Act::Readable(b"A", true)),
-    (b"A", Act::Readable(b"B", false)),
-    (b"A", Act::Readable(b"A", true)),
-    (
-        b"B",
-        Act::Reads(&[(b"A", false), (b"B", false), (b"C", false)]),
-    ),
-    (b"Z", Act::Reads(&[(b"A", false), (b"Z", false)])),
-    (b"A", Act::Grants(2)),
-    (b"A", Act::Changes(2)),
-];
-
-/// A grant that is revoked, beside one that stands.
-static REVOKED: [Line; 7] = [
-    (b"A", Act::Change(Grant(b"B"), 1)),
-    (b"C", Act::Change(Grant(b"B"), 1)),
-    (b"A", Act::Change(Revoke(b"B"), 2)),
-    (b"B", Act::Readable(b"A", false)),
-    (b"B", Act::Reads(&[(b"B", false), (b"C", false)])),
-    (b"A", Act::Grants(0)),
-    (b"B", Act::Changes(0)),
-];
-
-/// A vault is public, to one reader too, and in the end to nobody.
-static PUBLIC: [Line; 15] = [
-    (b"B", Act::Change(Put(b"B.s <- D"), 1)),
-    (b"B", Act::Change(GrantAll, 2)),
-    (b"A", Act::Reads(&[(b"A", false), (b"B", true)])),
-    (b"B", Act::Reads(&[(b"B", true)])),
-    (b"C", Act::Reads(&[(b"B", true), (b"C", false)])),
-    (b"B", Act::Change(GrantAll, 34)),
-    (b"B", Act::Change(Revoke(b"A"), 35)),
-    (b"B", Act::Change(Grant(b"A"), 3)),
-    (b"B", Act::Grants(2)),
-    (b"B", Act::Change(Revoke(b"A"), 4)),
-    (b"A", Act::Reads(&[(b"A", false), (b"B", true)])),
-    (b"B", Act::Change(RevokeAll, 5)),
-    (b"A", Act::Reads(&[(b"A", false)])),
-    (b"B", Act::Change(RevokeAll, 35)),
-    (b"B", Act::Grants(0)),
-];
-
-/// Grants to one reader and to all, and the order in which vaults are seen by them.
-static MIXED: [Line; 10] = [
-    (b"F", Act::Change(GrantAll, 1)),
-    (b"A", Act::Change(GrantAll, 1)),
-    (b"D", Act::Change(GrantAll, 1)),
-    (b"B", Act::Change(Grant(b"D"), 1)),
-    (b"F", Act::Change(Grant(b"D"), 2)),
-    (b"E", Act::Change(Grant(b"D"), 1)),
-    (
-        b"D",
-        Act::Reads(&[
-            (b"A", true),
-            (b"B", false),
-            (b"D", true),
-            (b"E", false),
-            (b"F", true),
-        ]),
-    ),
-    (b"F", Act::Change(RevokeAll, 3)),
-    (
-        b"D",
-        Act::Reads(&[
-            (b"A", true),
-            (b"B", false),
-            (b"D", true),
-            (b"E", false),
-            (b"F", false),
-        ]),
-    ),
-    (
-        b"G",
-        Act::Reads(&[(b"A", true), (b"D", true), (b"G", false)]),
-    ),
+/// The lines of each book, from the first on.
+static BOOKS: [&[Line]; 8] = [
+    // Each refusal, and what the book has come to.
+    &[
+        (b"A", Act::Change(Put(b"B.r <- D"), 31)),
+        (b"A", Act::Change(Put(b"A.r <- D"), 1)),
+        (b"A", Act::Change(Put(b"A.r <- D"), 32)),
+        (b"A", Act::Change(Drop(b"B.r <- D"), 31)),
+        (b"A", Act::Change(Drop(b"A.r <- E"), 33)),
+        (b"A", Act::Change(Grant(b"A"), 36)),
+        (b"A", Act::Change(Grant(b"B"), 2)),
+        (b"A", Act::Change(Grant(b"B"), 34)),
+        (b"A", Act::Change(Revoke(b"C"), 35)),
+        (b"A", Act::Change(Revoke(b"A"), 35)),
+        (b"A", Act::Change(Drop(b"A.r <- D"), 3)),
+        (b"A", Act::Change(Drop(b"A.r <- D"), 33)),
+        (b"A", Act::Change(Revoke(b"B"), 4)),
+        (b"A", Act::Change(Revoke(b"B"), 35)),
+        (b"A", Act::Vault(&[])),
+        (b"A", Act::Entries(4)),
+    ],
+    // Changes of every kind, and the journal that they leave.
+    &[
+        (b"A", Act::ReadBack(&[])),
+        (b"A", Act::Change(Put(b"A.r <- D"), 1)),
+        (b"Bob", Act::Change(Put(b"Bob.r <- A.r"), 1)),
+        (b"A", Act::Change(Grant(b"Bob"), 2)),
+        (b"A", Act::Change(Put(b"B.r <- D"), 31)),
+        (b"A", Act::Change(GrantAll, 3)),
+        (b"A", Act::Change(Revoke(b"Bob"), 4)),
+        (b"A", Act::Change(RevokeAll, 5)),
+        (b"Bob", Act::Change(Drop(b"Bob.r <- A.r"), 2)),
+        (
+            b"A",
+            Act::ReadBack(&[
+                (b"A", Put(b"A.r <- D")),
+                (b"Bob", Put(b"Bob.r <- A.r")),
+                (b"A", Grant(b"Bob")),
+                (b"A", GrantAll),
+                (b"A", Revoke(b"Bob")),
+                (b"A", RevokeAll),
+                (b"Bob", Drop(b"Bob.r <- A.r")),
+            ]),
+        ),
+    ],
+    // Uploads out of order, into the vaults of two tenants.
+    &[
+        (b"A", Act::Change(Put(b"A.s <- D"), 1)),
+        (b"A", Act::Change(Put(b"A.r- <- D"), 2)),
+        (b"B", Act::Change(Put(b"B.s <- D"), 1)),
+        (b"A", Act::Change(Put(b"A.r <- B.s"), 3)),
+        (b"A", Act::Change(Put(b"A.r <- E"), 4)),
+        (b"A", Act::Change(Put(b"A.q <- E"), 5)),
+        (b"A", Act::Change(Drop(b"A.r- <- D"), 6)),
+        (
+            b"A",
+            Act::Vault(&[b"A.q <- E", b"A.r <- E", b"A.r <- B.s", b"A.s <- D"]),
+        ),
+        (b"B", Act::Vault(&[b"B.s <- D"])),
+        (b"C", Act::Vault(&[])),
+    ],
+    // 900 credentials come and go in no order, and what stays is in order.
+    &[
+        (b"A", Act::Uploads),
+        (b"A", Act::Withdrawals),
+        (b"A", Act::Change(Put(b"A.r <- E000"), 32)),
+        (b"A", Act::Change(Put(b"A.r <- E450"), 32)),
+        (b"A", Act::Change(Put(b"A.r <- E898"), 32)),
+        (b"A", Act::Change(Drop(b"A.r <- E001"), 33)),
+        (b"A", Act::Change(Drop(b"A.r <- E449"), 33)),
+        (b"A", Act::Change(Drop(b"A.r <- E899"), 33)),
+        (b"A", Act::Uses([450, 0, 1_350])),
+        (b"A", Act::EvenVersion),
+        (b"A", Act::Change(Put(b"A.r <- E451"), 1_351)),
+        (b"A", Act::Change(Drop(b"A.r <- E451"), 1_352)),
+        (b"A", Act::EvenVersion),
+    ],
+    // Grants, and who reads whom by them.
+    &[
+        (b"C", Act::Change(Grant(b"B"), 1)),
+        (b"A", Act::Change(Grant(b"B"), 1)),
+        (b"A", Act::Change(Grant(b"Z"), 2)),
+        (b"B", Act::Readable(b"A", true)),
+        (b"A", Act::Readable(b"B", false)),
+        (b"A", Act::Readable(b"A", true)),
+        (
+            b"B",
+            Act::Reads(&[(b"A", false), (b"B", false), (b"C", false)]),
+        ),
+        (b"Z", Act::Reads(&[(b"A", false), (b"Z", false)])),
+        (b"A", Act::Uses([0, 2, 2])),
+    ],
+    // A grant that is revoked, beside one that stands.
+    &[
+        (b"A", Act::Change(Grant(b"B"), 1)),
+        (b"C", Act::Change(Grant(b"B"), 1)),
+        (b"A", Act::Change(Revoke(b"B"), 2)),
+        (b"B", Act::Readable(b"A", false)),
+        (b"B", Act::Reads(&[(b"B", false), (b"C", false)])),
+        (b"A", Act::Uses([0, 0, 2])),
+        (b"B", Act::Uses([0, 0, 0])),
+    ],
+    // A vault is public, to one reader too, and in the end to nobody.
+    &[
+        (b"B", Act::Change(Put(b"B.s <- D"), 1)),
+        (b"B", Act::Change(GrantAll, 2)),
+        (b"A", Act::Reads(&[(b"A", false), (b"B", true)])),
+        (b"B", Act::Reads(&[(b"B", true)])),
+        (b"C", Act::Reads(&[(b"B", true), (b"C", false)])),
+        (b"B", Act::Change(GrantAll, 34)),
+        (b"B", Act::Change(Revoke(b"A"), 35)),
+        (b"B", Act::Change(Grant(b"A"), 3)),
+        (b"B", Act::Uses([1, 2, 3])),
+        (b"B", Act::Change(Revoke(b"A"), 4)),
+        (b"A", Act::Reads(&[(b"A", false), (b"B", true)])),
+        (b"B", Act::Change(RevokeAll, 5)),
+        (b"A", Act::Reads(&[(b"A", false)])),
+        (b"B", Act::Change(RevokeAll, 35)),
+        (b"B", Act::Uses([1, 0, 5])),
+    ],
+    // Grants to one reader and to all, and the order in which vaults are seen by them.
+    &[
+        (b"F", Act::Change(GrantAll, 1)),
+        (b"A", Act::Change(GrantAll, 1)),
+        (b"D", Act::Change(GrantAll, 1)),
+        (b"B", Act::Change(Grant(b"D"), 1)),
+        (b"F", Act::Change(Grant(b"D"), 2)),
+        (b"E", Act::Change(Grant(b"D"), 1)),
+        (
+            b"D",
+            Act::Reads(&[
+                (b"A", true),
+                (b"B", false),
+                (b"D", true),
+                (b"E", false),
+                (b"F", true),
+            ]),
+        ),
+        (b"F", Act::Change(RevokeAll, 3)),
+        (
+            b"D",
+            Act::Reads(&[
+                (b"A", true),
+                (b"B", false),
+                (b"D", true),
+                (b"E", false),
+                (b"F", false),
+            ]),
+        ),
+        (
+            b"G",
+            Act::Reads(&[(b"A", true), (b"D", true), (b"G", false)]),
+        ),
+    ],
 ];
 
 /// A vault comes to its first row.
@@ -454,26 +492,6 @@ static FAULTS: [(VaultFault, u64, &str); 7] = [
     (VaultFault::Memory, 90, "memory"),
 ];
 
-/// Whether a book for each table answers its lines as it is to.
-fn all_books_so(alloc: Global) -> Result<bool, CredFault> {
-    let tables: [&[Line]; 8] = [
-        &REFUSALS,
-        &EVERY_KIND,
-        &OUT_OF_ORDER,
-        &COME_AND_GO,
-        &GRANTED,
-        &REVOKED,
-        &PUBLIC,
-        &MIXED,
-    ];
-    for lines in tables {
-        if !all_so_anew(alloc, lines)? {
-            return Ok(false);
-        }
-    }
-    Ok(true)
-}
-
 /// Whether each fault has its number and its text.
 fn all_faults_so(alloc: Global) -> Result<bool, AllocError> {
     for (fault, number, text) in &FAULTS {
@@ -486,7 +504,9 @@ fn all_faults_so(alloc: Global) -> Result<bool, AllocError> {
 
 #[test]
 fn each_book_answers_its_lines_and_faults(rt: HostRuntime) -> Result<(), CredFault> {
-    assert!(rt; all_books_so(rt.alloc())?);
+    for lines in &BOOKS {
+        assert!(rt; all_so_anew(rt.alloc(), lines)?);
+    }
     assert!(rt; all_faults_so(rt.alloc())?);
     Ok(())
 }
@@ -501,49 +521,41 @@ fn stays_from_its_first_row(alloc: Global, book: &mut Book) -> Result<bool, Cred
     if !all_so(alloc, book, &FIRST_ROW)? {
         return Ok(false);
     }
-    match book
-        .version_of(Entity::read(b"B")?)
-        .or(Err(CredFault::Memory))?
-    {
-        Some(version) => stays(alloc, book, &version),
-        None => Ok(false),
+    match book.version_of(Entity::read(b"B")?) {
+        Ok(Some(version)) => stays(alloc, book, &version),
+        Ok(None) => Ok(false),
+        Err(_) => Err(CredFault::Memory),
     }
+}
+
+/// The same of a book that has no entry yet.
+fn version_stays(alloc: Global) -> Result<bool, CredFault> {
+    let mut book = Book::new(alloc);
+    stays_from_its_first_row(alloc, &mut book)
 }
 
 #[test]
 fn a_held_version_stays(rt: HostRuntime) -> Result<(), CredFault> {
-    let mut book = Book::new(rt.alloc());
-    assert!(rt; stays_from_its_first_row(rt.alloc(), &mut book)?);
+    assert!(rt; version_stays(rt.alloc())?);
     Ok(())
-}
-
-/// The longest text of a credential: its head and eight linked roles, of names of 64 bytes each.
-fn longest(alloc: Global) -> Result<Vec<u8>, CredFault> {
-    let mut text = Vec::new(alloc);
-    for place in 0..26u64 {
-        let before: &[u8] = match place {
-            0 => b"",
-            2 => b" <- ",
-            _ if place % 3 == 2 => b" & ",
-            _ => b".",
-        };
-        text.extend_from_slice(before)?;
-        text.extend_from_slice(&[b'A'; 64])?;
-    }
-    Ok(text)
 }
 
 /// Whether the credential of this text is entered, and read back.
 fn is_kept(alloc: Global, book: &mut Book, text: &[u8]) -> Result<bool, CredFault> {
-    let owner = [b'A'; 64];
+    let owner = [b'x'; 64];
     let is_entered = answers(alloc, book, Entity::read(&owner)?, &Put(text), 1)?;
     Ok(is_entered && reads_back(alloc, book, &[(&owner, Put(text))])?)
 }
 
+/// Whether the longest one is.
+fn longest_is_kept(alloc: Global) -> Result<bool, CredFault> {
+    let text = longest_text(alloc)?;
+    let mut book = Book::new(alloc);
+    Ok(text.len() == 1_706 && is_kept(alloc, &mut book, &text)?)
+}
+
 #[test]
 fn the_longest_credential_is_read_back(rt: HostRuntime) -> Result<(), CredFault> {
-    let mut book = Book::new(rt.alloc());
-    let text = longest(rt.alloc())?;
-    assert!(rt; text.len() == 1_706 && is_kept(rt.alloc(), &mut book, &text)?);
+    assert!(rt; longest_is_kept(rt.alloc())?);
     Ok(())
 }

@@ -3,7 +3,7 @@ use Rattle.std.proofs.lemmas.Result.{IfOk-from_err}
 use Rattle.credential_text.specs.declared.exprs.Expr.TheVariants.{Ent}
 use Rattle.cred_graph.specs.declared.listeners.Port.TheVariants as port
 use Rattle.cred_graph.proofs.KeptLemmas.{not_kept}
-use Rattle.cred_graph.proofs.Lists.{on_err, slice_get_pushed}
+use Rattle.cred_graph.proofs.NodeListLemmas.{on_err, slice_get_pushed}
 use Rattle.cred_graph.proofs.NumberLemmas.{entity_is}
 use Rattle.cred_graph.proofs.listeners.keep_port.Goals as goal
 

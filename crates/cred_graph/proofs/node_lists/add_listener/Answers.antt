@@ -1,8 +1,7 @@
 use Rattle.std.proofs.Common.{ap, refl}
 use Rattle.std.proofs.lemmas.Result.{IfOk-from_err}
 use Rattle.cred_graph.specs.declared.node_lists.NodeLists.{NodeLists}
-use Rattle.cred_graph.proofs.Lists.{on_err}
-use Rattle.cred_graph.proofs.NodeListLemmas.{entry_adds, entry_kept}
+use Rattle.cred_graph.proofs.NodeListLemmas.{on_err, entry_adds, entry_kept}
 use Rattle.cred_graph.proofs.node_lists.add_listener.Goals as goal
 
 pub returns-in_err-reach : goal.returns-in_err-reach

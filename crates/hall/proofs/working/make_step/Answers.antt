@@ -7,7 +7,7 @@ use Rattle.search.specs.{Search.SearchState, Stage.Delivers, Stage.IsQuiet}
 use Rattle.hall.specs.{Hall.StepsEach, Work.GoesOn}
 use Rattle.hall.specs.Batches.{letter_of}
 use Rattle.search.proofs.Driven.{first_goes, nothing_first}
-use Rattle.search.proofs.Taking.{takes_needing, taken_there}
+use Rattle.search.proofs.Finishing.{takes_needing, taken_there}
 use Rattle.hall.proofs.Batched.{delivered_sound, none_made, one_made}
 use Rattle.hall.proofs.SearchSteps.{stage_alone}
 use Rattle.hall.proofs.working.make_step.Goals as goal

@@ -19,12 +19,20 @@ enum Act {
     Look(u64, u64, Status),
 }
 
+/// Whether rows are needed.
+fn needs_rows(need: &Need) -> bool {
+    match need {
+        Need::Rows(_) => true,
+        Need::Nothing => false,
+    }
+}
+
 /// The letter of that number is taken, for rows or for nothing.
 fn takes(search: &mut Search, number: u64, rows: bool) -> Result<bool, AllocError> {
-    let Some(task) = search.take(0)? else {
-        return Ok(false);
-    };
-    Ok(task.letter == number && matches!(&task.need, Need::Rows(_)) == rows)
+    match search.take(0)? {
+        Some(task) => Ok(task.letter == number && needs_rows(&task.need) == rows),
+        None => Ok(false),
+    }
 }
 
 /// The search is driven until nothing moves.
@@ -35,14 +43,9 @@ fn drives(search: &mut Search) -> bool {
 
 /// So many letters wait, so many signals are under way, and the search has come to this.
 fn looks(search: &Search, waiting: u64, signals: u64, status: Status) -> Result<bool, AllocError> {
-    let ended = ending(search)?;
     let works = status == Status::Working;
-    Ok(
-        search.waiting() == waiting
-            && search.signals() == signals
-            && search.is_outstanding() == works
-            && ended == status,
-    )
+    let counts = [search.waiting(), search.signals()] == [waiting, signals];
+    Ok(ending(search)? == status && counts && search.is_outstanding() == works)
 }
 
 /// Whether the act goes as it says.

@@ -1,6 +1,7 @@
 //! Credentials that a row of numbers makes, each number from the one before by a linear congruence.
 ghost use Rattle.std.specs.Prelude.{◌<◌};
 
+use crate::tests_below::of_credential_text::made_of;
 use credential_text::{CredFault, Credential, Expr, Part, Parts};
 use names::{Entity, NameFault, Role, RoleName};
 use std::alloc::{AllocError, Global};
@@ -60,7 +61,7 @@ fn parts(alloc: Global, state: &mut u64, owner: Entity) -> Result<Parts, CredFau
         }
         _ => {}
     }
-    Parts::make(alloc, &many[..count])?.ok_or(CredFault::Parts)
+    made_of(alloc, &many[..count])
 }
 
 /// A credential of one of the four forms.

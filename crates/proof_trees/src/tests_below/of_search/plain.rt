@@ -24,6 +24,23 @@ fn comes_to(
     Ok(come_to(&mut search, way)? == status && has_members(&search, members)?)
 }
 
+// Whether the search comes to this whichever way it is carried on.
+fn comes_to_each_way(
+    alloc: Global,
+    snapshot: &Arc<Snapshot>,
+    query: Query,
+    work: u64,
+    status: Status,
+    members: &[Entity],
+) -> Result<bool, AllocError> {
+    for way in &WAYS {
+        if !comes_to(alloc, snapshot, query, work, *way, status, members)? {
+            return Ok(false);
+        }
+    }
+    Ok(true)
+}
+
 // Whether the search finds these members by this work, whichever way it is carried on, and by less is spent.
 fn finds(
     alloc: Global,
@@ -32,21 +49,45 @@ fn finds(
     work: u64,
     members: &[Entity],
 ) -> Result<bool, AllocError> {
-    let less = work - work.min(1);
-    for way in &WAYS {
-        if !comes_to(alloc, snapshot, query, work, *way, Status::Members, members)? {
-            return Ok(false);
-        }
-        if less > 0 && !comes_to(alloc, snapshot, query, less, *way, Status::Spent, members)? {
-            return Ok(false);
-        }
+    if work > 1 && !comes_to_each_way(alloc, snapshot, query, work - 1, Status::Spent, members)? {
+        return Ok(false);
     }
-    Ok(true)
+    comes_to_each_way(alloc, snapshot, query, work, Status::Members, members)
 }
 
 static ASKED: [&[u8]; 4] = [b"A", b"B", b"C", b"D"];
 
-// Whether the search, driven, answers for each of the four whether it is a member.
+// What a search for the entity is to come to, where these are the members.
+fn status_of(members: &[Entity], who: &Entity) -> Status {
+    if members.contains(who) {
+        Status::Yes
+    } else {
+        Status::No
+    }
+}
+
+// Whether the search, driven, answers for this one whether it is a member.
+fn answers_for(
+    alloc: Global,
+    snapshot: &Arc<Snapshot>,
+    role: Role,
+    who: Entity,
+    work: u64,
+    members: &[Entity],
+) -> Result<bool, AllocError> {
+    let status = status_of(members, &who);
+    comes_to(
+        alloc,
+        snapshot,
+        Query::Ask(role, who),
+        work,
+        None,
+        status,
+        members,
+    )
+}
+
+// Whether it does for each of the four.
 fn answers(
     alloc: Global,
     snapshot: &Arc<Snapshot>,
@@ -56,20 +97,7 @@ fn answers(
 ) -> Result<bool, CredFault> {
     for name in &ASKED {
         let who = Entity::read(name)?;
-        let status = if members.contains(&who) {
-            Status::Yes
-        } else {
-            Status::No
-        };
-        if !comes_to(
-            alloc,
-            snapshot,
-            Query::Ask(role, who),
-            work,
-            None,
-            status,
-            members,
-        )? {
+        if !answers_for(alloc, snapshot, role, who, work, members)? {
             return Ok(false);
         }
     }
@@ -98,12 +126,18 @@ fn agree(alloc: Global, credentials: &[Credential], role: Role) -> Result<bool, 
     Ok(find_all(alloc, &snapshot, role, work, &members)?)
 }
 
+// Whether they do for the next of these.
+fn next_agrees(alloc: Global, state: &mut u64) -> Result<bool, Fail> {
+    let all = credentials(alloc, state)?;
+    let role = role(state)?;
+    agree(alloc, &all, role)
+}
+
 #[test]
 fn as_the_plain_programs(rt: HostRuntime) -> Result<(), Fail> {
     let mut state = 1;
     for _ in 0..240 {
-        let all = credentials(rt.alloc(), &mut state)?;
-        assert!(rt; agree(rt.alloc(), &all, role(&mut state)?)?);
+        assert!(rt; next_agrees(rt.alloc(), &mut state)?);
     }
     Ok(())
 }

@@ -1,4 +1,4 @@
-use Rattle.scholten_core.proofs.Paid.{delivers_paid}
+use Rattle.scholten_core.proofs.Delivered.{delivers_paid}
 use Rattle.scholten_core.proofs.engagement.deliver.Goals as goal
 
 pub returns-in-Node : goal.returns-in-Node

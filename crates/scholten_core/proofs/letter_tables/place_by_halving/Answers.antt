@@ -4,8 +4,7 @@ use Rattle.scholten_core.proofs.Standing.{absent_between, number_there, parted_b
 use Rattle.scholten_core.proofs.letter_tables.place_by_halving.Goals as goal
 
 pub returns-then-stands_at : goal.returns-then-stands_at
-returns-then-stands_at g c =
-    number_there c.args.number c.args.letters.now.items c.partition_point-at.result (sym c.stands_at.ensures ∙ c.if-stands_at.true)
+returns-then-stands_at g c = number_there c.args.number c.args.letters.now.items c.partition_point-at.result (sym c.stands_at.ensures ∙ c.if-stands_at.true)
 
 pub returns-else-stands_at : goal.returns-else-stands_at
 returns-else-stands_at g c =

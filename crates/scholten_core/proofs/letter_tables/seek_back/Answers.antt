@@ -1,6 +1,6 @@
 use Rattle.std.proofs.Common.{◌-◌, ap, ◌∙◌, arith, refl, sym}
 use Rattle.std.proofs.lemmas.Option.{slice_get_read}
-use Rattle.scholten_core.proofs.Counts.{one, count-back, waits_here}
+use Rattle.scholten_core.proofs.Standing.{one, count-back, waits_here}
 use Rattle.scholten_core.proofs.letter_tables.seek_back.Goals as goal
 
 pub returns-then-left-eq0 : goal.returns-then-left-eq0

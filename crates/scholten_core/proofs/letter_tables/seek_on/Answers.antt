@@ -1,6 +1,6 @@
 use Rattle.std.proofs.Common.{ap, ◌∙◌, arith, sym}
 use Rattle.std.proofs.lemmas.Option.{slice_get_read}
-use Rattle.scholten_core.proofs.Counts.{one, count-next, waits_here}
+use Rattle.scholten_core.proofs.Standing.{one, count-next, waits_here}
 use Rattle.scholten_core.proofs.letter_tables.seek_on.Goals as goal
 
 pub returns-then-left-eq0 : goal.returns-then-left-eq0

@@ -5,7 +5,7 @@ use Rattle.credential_text.specs.declared.exprs.Expr.{Expr}
 use Rattle.credential_text.specs.Expr.{part_expr}
 use Rattle.cred_graph.specs.declared.listeners.Port.TheVariants as port
 use Rattle.search.specs.Answers.{AsksFor, part_asks}
-use Rattle.search.proofs.AskLoops.{asks_next, asks_all, part_ask_at, part_asks_count}
+use Rattle.search.proofs.Asked.{asks_next, asks_all, part_ask_at, part_asks_count}
 use Rattle.search.proofs.answers.ask_parts.Goals as goal
 
 pub loop-place-preserved : goal.loop-place-preserved

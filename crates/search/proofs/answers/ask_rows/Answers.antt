@@ -4,8 +4,7 @@ use Rattle.cred_graph.specs.declared.listeners.Port.TheVariants as port
 use Rattle.snapshots.specs.declared.spans.Span.{Span}
 use Rattle.snapshots.specs.Span.{role_rows}
 use Rattle.search.specs.Answers.{row_asks}
-use Rattle.search.proofs.AskLoops.{asks_next, asks_all, row_ask_at, row_asks_count}
-use Rattle.search.proofs.Rows.{span_length}
+use Rattle.search.proofs.Asked.{asks_next, asks_all, row_ask_at, row_asks_count, span_length}
 use Rattle.search.proofs.answers.ask_rows.Goals as goal
 
 pub overflow_sub-count : goal.overflow_sub-count

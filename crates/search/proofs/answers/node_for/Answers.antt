@@ -22,3 +22,7 @@ returns-clause-given c =
     node_added c.args.found.now c.found.inside.graph c.node_of.new.self c.found.inside.monitors.items c.push_reserved.new.self.items c.monitor_for-monitor.result c.found.inside.outs.items c.args.expr.now c.in_ok-node.node c.found.view_is c.found.invariant
     (subst (NodeGiven c.found.inside.graph c.node_of.new.self c.args.expr.now c.in_ok-node.node) c.if-not-is_new.false c.in_ok-node.ensures.ok)
     (c.push_reserved.ensures.items ∙ ap (λ (ms : List NumberedMonitor). ms ++ c.monitor_for-monitor.result ∷ []) c.reserve.ensures.items) (c.monitor_for-monitor.ensures.same c.node_of.new.self.nodes)
+
+pub invariant_of-found-then-not-is_new : goal.invariant_of-found-then-not-is_new
+invariant_of-found-then-not-is_new c =
+    numbered_given c.found.inside.graph c.node_of.new.self c.args.expr.now c.in_ok-node.node c.in_ok-node.is_new c.found.inside.monitors.items c.found.inside.outs.items c.in_ok-node.ensures.ok c.node_of.ensures.graph c.found.invariant

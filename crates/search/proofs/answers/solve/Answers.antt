@@ -3,16 +3,16 @@ use Rattle.std.proofs.Common.{◌≡◌, ◌∙◌, ◌++◌, Some, ap, append-n
 use Rattle.cred_graph.specs.declared.listeners.Listening.{Listening}
 use Rattle.cred_graph.specs.declared.solutions.Solution.{Solution}
 use Rattle.cred_graph.specs.Graph.{Fits, GraphState, SolutionGiven, listeners_of}
-use Rattle.cred_graph.specs.Numbers.{entity_at, port_at, reason_at}
-use Rattle.cred_graph.proofs.Lists.{Contains-at_place}
+use Rattle.cred_graph.specs.Numbers.{IsPort, entity_at, port_at, reason_at}
+use Rattle.cred_graph.proofs.NodeListLemmas.{Contains-at_place}
 use Rattle.search.specs.declared.letters.Load.TheVariants as load
 use Rattle.search.specs.Answers.{Progress}
 use Rattle.search.specs.Net.{outs_at}
 use Rattle.search.specs.Numbered.{monitor_at}
-use Rattle.search.proofs.Tells.{new_tells}
-use Rattle.search.proofs.Loops.{tells_on, told_all}
+use Rattle.search.proofs.Tells.{new_tells, tells_on, told_all}
 use Rattle.search.proofs.Numbered.{numbered_solved}
 use Rattle.search.proofs.answers.solve.Goals as goal
+use Rattle.search.proofs.answers.solve.Goals.{After-graph}
 
 pub add_numbered_solution-requires-clause-fits : goal.add_numbered_solution-requires-clause-fits
 add_numbered_solution-requires-clause-fits c =
@@ -54,3 +54,21 @@ returns c =
     let count = ap (λ (g : GraphState). length (listeners_of g c.args.node)) (c.graph.ensures.graph ∙ first.1 ∙ sym new) in
     let all = told_all (λ (g : GraphState) (l : Listening). (l.asker, load.Tell l.port (entity_at g.nodes c.args.who))) (λ (g : GraphState). listeners_of g c.args.node) s t c.loop-place.place outs (omega (arith, count, c.listeners-place-end.ensures.count, c.loop-place-test.false)) in
     (true, given, monitors, all ∙ ap (λ (g : GraphState). s.outs ++ new_tells g c.args.node (entity_at g.nodes c.args.who)) given.1)
+
+-- nodes stay
+nodes : (c : After-graph) → c.graph.result.now.nodes ≡ c.args.found.now.graph.nodes
+nodes c =
+    let first = rw c.if-not-branch.false at c.in_ok-add_numbered_solution.ensures.ok in
+    ap (λ (g : GraphState). g.nodes) (c.graph.ensures.graph ∙ first.1) ∙ ap (λ (s : Progress). s.graph.nodes) c.found.view_is
+
+pub listeners-place-end-requires : goal.listeners-place-end-requires
+listeners-place-end-requires c = rw (nodes (goal.at.listeners-place-end-requires c).After-graph) c.requires.node
+
+pub numbered_listener-asker-requires-clause-node : goal.numbered_listener-asker-requires-clause-node
+numbered_listener-asker-requires-clause-node c = rw (c.graph-in-loop-place.ensures.graph, c.loop-place.invariant.0.1) c.requires.node
+
+pub send-requires : goal.send-requires
+send-requires c = (
+  subst (λ (g : GraphState). IsPort g.nodes c.numbered_listener-asker.result.1) c.graph-in-loop-place.ensures.graph c.numbered_listener-asker.ensures.port,
+  rw c.loop-place.invariant.0.1 c.requires.entity,
+)

@@ -2,7 +2,7 @@ use Rattle.std.proofs.Common.{◌≡◌, ◌∙◌, ◌↔◌, ap, sym, subst, L
 use Rattle.std.proofs.lemmas.List.{take_all}
 use Rattle.rt0_rules.specs.Work.{AreDistinct}
 use Rattle.cred_graph.specs.Graph.{members_of}
-use Rattle.search.proofs.Listing.{one_more, sorted_once, same_names}
+use Rattle.search.proofs.Answered.{one_more, sorted_once, same_names}
 use Rattle.search.proofs.WorkOf.{members_apart}
 use Rattle.search.proofs.members.solutions_in_order.Goals.{After-loop-place}
 use Rattle.search.proofs.members.solutions_in_order.Goals as goal

@@ -2,7 +2,7 @@
 use Rattle.std.proofs.Common.{◌≡◌, ◌∙◌, ◌==◌, Bool, IsTrue, true, ap, eq-eqb, sym, subst}
 use Rattle.std.specs.Prelude.{if◌then◌else◌}
 use Rattle.cred_graph.specs.declared.solutions.Solution.{Solution}
-use Rattle.cred_graph.proofs.Lists.{Contains-at_place}
+use Rattle.cred_graph.proofs.NodeListLemmas.{Contains-at_place}
 use Rattle.scholten_core.specs.Computation.{outstanding}
 use Rattle.search.specs.declared.outcomes.Status.{Status}
 use Rattle.search.specs.declared.outcomes.Status.TheVariants.{Yes, No}

@@ -1,5 +1,5 @@
 -- The letter is there and held.
-use Rattle.search.proofs.Holding.{holds_letter}
+use Rattle.search.proofs.Searching.{holds_letter}
 use Rattle.search.proofs.stages.held_letter.Goals as goal
 
 pub returns : goal.returns

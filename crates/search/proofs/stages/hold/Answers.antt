@@ -1,7 +1,7 @@
 -- The letter that was taken is in hand.
 use Rattle.std.proofs.Common.{sym}
 use Rattle.scholten_core.proofs.Complete.{stand_by_number}
-use Rattle.search.proofs.Holding.{holds_taken}
+use Rattle.search.proofs.Searching.{holds_taken}
 use Rattle.search.proofs.stages.hold.Goals as goal
 
 pub returns : goal.returns

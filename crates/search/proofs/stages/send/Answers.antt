@@ -1,7 +1,7 @@
 -- The letters sent with these are compared with the work limit.
-use Rattle.std.proofs.Common.{ℕ, ◌≤◌, ◌≡◌, ◌∙◌, All, List, refl, sym, subst, length, arith}
+use Rattle.std.proofs.Common.{ℕ, ◌≤◌, ◌≡◌, ◌∙◌, All, List, ap, refl, sym, subst, length, arith}
 use Rattle.cred_graph.specs.Graph.{GraphState}
-use Rattle.scholten_core.specs.Computation.{Computation}
+use Rattle.scholten_core.specs.Computation.{Computation, IsHeld}
 use Rattle.search.specs.Net.{IsLoad, Said, outs_at}
 use Rattle.search.specs.declared.outcomes.Finished.{Finished}
 use Rattle.search.specs.declared.outcomes.Finished.TheVariants.{Done, Spent, Broken}
@@ -11,7 +11,7 @@ use Rattle.search.specs.declared.findings.NumberedMonitor.{NumberedMonitor}
 use Rattle.search.specs.Answers.{Progress}
 use Rattle.search.specs.Numbered.{AreNumbered, progress_at}
 use Rattle.search.specs.Stage.{Sends}
-use Rattle.search.proofs.Holding.{same_running}
+use Rattle.search.proofs.Searching.{same_running}
 use Rattle.search.proofs.stages.send.Goals as goal
 use Rattle.search.proofs.stages.send.Goals.{After-sent}
 
@@ -49,3 +49,14 @@ returns-clause-sends c =
     let count : c.len.result ≡ length c.found.inside.outs.items = c.len.ensures ∙ c.found.inside.outs.ok.0 in
     some c.args.stage.now (stage.Running c.finish_with.new.self) c.args.work c.args.number Done c.found.inside.graph c.found.inside.monitors.items c.found.inside.outs.items c.found.view_is c.found.invariant
     (c.in-Running.running, c.finish_with.new.self, c.in-Running.is, refl, omega (arith, within after, c.if-work-sent.false, c.sent.ensures, count), c.in-Ok.ensures.finished)
+
+pub finish_with-requires : goal.finish_with-requires
+finish_with-requires c =
+    let after = (goal.at.finish_with-requires c).After-sent in
+    record { held = subst (λ (d : Computation Said). IsHeld d.letters c.args.number) (same after) c.requires.2; room = omega (arith, within after, c.if-work-sent.false, c.sent.ensures, c.len.ensures) }
+
+pub returns-clause-findings : goal.returns-clause-findings
+returns-clause-findings c = (ap (λ (s : Progress). s.graph) c.found.view_is, ap (λ (s : Progress). s.monitors) c.found.view_is)
+
+pub returns-in_default-finish_with-clause-findings : goal.returns-in_default-finish_with-clause-findings
+returns-in_default-finish_with-clause-findings c = (ap (λ (s : Progress). s.graph) c.found.view_is, ap (λ (s : Progress). s.monitors) c.found.view_is)

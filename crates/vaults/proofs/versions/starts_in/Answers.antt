@@ -1,12 +1,38 @@
 use Rattle.std.proofs.Common.{ℕ, suc, List, [], ◌∷◌, ◌++◌, ◌≡◌, ◌∙◌, ◌+◌, ◌-◌, arith, length, length-append, sym, ap, refl, take, drop, Some}
 use Rattle.std.specs.List.{slice_get}
-use Rattle.std.proofs.lemmas.List.{take_all}
+use Rattle.std.proofs.lemmas.List.{take_all, length-take-le}
 use Rattle.std.proofs.lemmas.Option.{slice_get_read}
 use Rattle.credential_text.specs.declared.credentials.Credential.{Credential}
 use Rattle.vaults.specs.Blocks.{rows_in, starts_of}
 use Rattle.vaults.proofs.Parts.{take_one_more}
 use Rattle.vaults.proofs.Holders.{drop_at, start_of, length-starts}
 use Rattle.vaults.proofs.versions.starts_in.Goals as goal
+
+pub overflow_sub-left : goal.overflow_sub-left
+overflow_sub-left c =
+    let blocks : List (List Credential) = c.args.blocks.now in
+    let here : ℕ = c.loop-block.block-index in
+    let block : List Credential = c.block-item.result in
+    omega (
+      arith,
+      c.loop-block.invariant.left,
+      ap (λ (l : List (List Credential)). length (rows_in l)) (drop_at blocks here block (slice_get_read blocks (length blocks) here block refl c.loop-block-test.true c.block-item.is)),
+      length-append (rows_in (drop (suc here) blocks)) block,
+      ap length c.rows.ensures.rows,
+    )
+
+pub push_reserved-requires : goal.push_reserved-requires
+push_reserved-requires c =
+    let blocks : List (List Credential) = c.args.blocks.now in
+    let here : ℕ = c.loop-block.block-index in
+    omega (
+      arith,
+      c.loop-block.starts.ok.0,
+      ap length c.loop-block.invariant.started,
+      length-take-le here (starts_of blocks) (omega (arith, length-starts blocks, c.loop-block-test.true)),
+      c.loop-block.invariant.room,
+      c.loop-block-test.true,
+    )
 
 pub loop-block-preserved : goal.loop-block-preserved
 loop-block-preserved c =

@@ -1,5 +1,5 @@
 use Rattle.std.proofs.lemmas.Result.{IfOk-from_err}
-use Rattle.cred_graph.proofs.Lists.{on_err}
+use Rattle.cred_graph.proofs.NodeListLemmas.{on_err}
 use Rattle.cred_graph.specs.Stored.{graph_as}
 use Rattle.cred_graph.proofs.StoredLemmas.{Listened, joined, joined_same, listener_kept, listens_by, no_listener}
 use Rattle.cred_graph.proofs.graphs.Graph.add_listener.Goals as goal

@@ -2,7 +2,7 @@ use Rattle.std.proofs.Common.{arith}
 use Rattle.cred_graph.specs.Numbers.{entity_at, reason_at}
 use Rattle.cred_graph.specs.Stored.{graph_as}
 use Rattle.cred_graph.proofs.StoredLemmas.{Found, kept_by, found_by}
-use Rattle.cred_graph.proofs.Solvers.{fits_node}
+use Rattle.cred_graph.proofs.SolutionLemmas.{fits_node}
 use Rattle.cred_graph.proofs.graphs.Graph.add_numbered_solution.Goals as goal
 
 pub invariant_of-self : goal.invariant_of-self

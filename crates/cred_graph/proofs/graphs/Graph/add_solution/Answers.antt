@@ -1,6 +1,6 @@
 use Rattle.cred_graph.specs.Stored.{graph_as}
 use Rattle.cred_graph.proofs.NumberLemmas.{entity_is}
-use Rattle.cred_graph.proofs.Solvers.{new_solver_has_node, reason_has_numbers}
+use Rattle.cred_graph.proofs.SolutionLemmas.{new_solver_has_node, reason_has_numbers}
 use Rattle.cred_graph.proofs.graphs.Graph.add_solution.Goals as goal
 use Rattle.cred_graph.proofs.graphs.Graph.add_solution.Goals.{After-add_numbered_solution}
 

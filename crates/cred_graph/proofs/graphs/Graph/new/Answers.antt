@@ -1,4 +1,4 @@
-use Rattle.cred_graph.proofs.EmptyLemmas.{none, stored}
+use Rattle.cred_graph.proofs.Growth.{none, stored}
 use Rattle.cred_graph.proofs.graphs.Graph.new.Goals as goal
 
 pub returns-clause-empty : goal.returns-clause-empty

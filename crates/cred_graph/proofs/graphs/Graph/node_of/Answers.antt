@@ -1,7 +1,7 @@
 use Rattle.std.proofs.Common.{ap, arith, refl}
 use Rattle.std.proofs.lemmas.Result.{IfOk-from_err}
 use Rattle.cred_graph.specs.Stored.{graph_as}
-use Rattle.cred_graph.proofs.Lists.{on_err}
+use Rattle.cred_graph.proofs.NodeListLemmas.{on_err}
 use Rattle.cred_graph.proofs.StoredLemmas.{node_given, node_stands, node_stored}
 use Rattle.cred_graph.proofs.graphs.Graph.node_of.Goals as goal
 
@@ -25,13 +25,7 @@ returns-clause-ok c =
     (node_given c.self.inside.nodes _ c.self.inside.strangers c.self.inside.tables.0 c.self.inside.tables.1 c.args.expr.now c.in_ok-n.n c.self.invariant absent c.in_ok-n.ensures.range c.in_ok-n.ensures.added c.in_ok-n.ensures.number)
 
 pub returns-in-Some : goal.returns-in-Some
-returns-in-Some c = record {
-  ok = (c.in-Some.ensures.node, refl);
-  node = c.in-Some.ensures.node;
-  graph = c.in-Some.ensures.graph;
-  growth = tt;
-  unchanged = tt;
-}
+returns-in-Some c = record { ok = (c.in-Some.ensures.node, refl); node = c.in-Some.ensures.node; graph = c.in-Some.ensures.graph; growth = tt; unchanged = tt }
 
 pub add-requires : goal.add-requires
 add-requires c = rw (← c.self.view_is) at c.in_default.ensures.node

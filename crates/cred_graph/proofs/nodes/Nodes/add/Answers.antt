@@ -5,7 +5,7 @@ use Rattle.credential_text.proofs.Equality.{exprs_decided}
 use Rattle.credential_text.specs.declared.exprs.Expr.{Expr}
 use Rattle.credential_text.specs.contracts.exprs.ExprPartialEq.TheImpl as expr
 use Rattle.indexmap.specs.IndexSet.{insert_key}
-use Rattle.cred_graph.proofs.Lists.{on_err}
+use Rattle.cred_graph.proofs.NodeListLemmas.{on_err}
 use Rattle.cred_graph.proofs.Lookups.{insert_key-absent}
 use Rattle.cred_graph.proofs.nodes.Nodes.add.Goals as goal
 use Rattle.cred_graph.proofs.nodes.Nodes.add.Goals.{In_ok-_is_new}
@@ -21,8 +21,7 @@ pushed c =
     ∙ insert_key-absent expr.ghosts.eq exprs_decided c.self.inside.exprs.keys c.args.expr.now absent
 
 pub invariant_of-self-2 : goal.invariant_of-self-2
-invariant_of-self-2 c =
-    short_pushed c.self.inside.exprs.keys _ c.args.expr.now (rw (← c.len-number.ensures.len) c.if-number-ge-MOST.false) (pushed c)
+invariant_of-self-2 c = short_pushed c.self.inside.exprs.keys _ c.args.expr.now (rw (← c.len-number.ensures.len) c.if-number-ge-MOST.false) (pushed c)
 
 pub returns-clause-number : goal.returns-clause-number
 returns-clause-number c = c.len-number.ensures.len ∙ ap length c.self.view_is

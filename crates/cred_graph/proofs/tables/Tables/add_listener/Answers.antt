@@ -3,9 +3,8 @@ use Rattle.std.proofs.lemmas.Bool.{iff_false}
 use Rattle.std.proofs.lemmas.Result.{IfOk-from_err}
 use Rattle.cred_graph.specs.declared.listeners.KeptListening.{KeptListening}
 use Rattle.cred_graph.proofs.ListenerLemmas.{far_near, far_same, far_added}
-use Rattle.cred_graph.proofs.Lists.{on_err}
+use Rattle.cred_graph.proofs.NodeListLemmas.{on_err, listeners_in, members_in}
 use Rattle.cred_graph.proofs.SolutionLemmas.{members_same}
-use Rattle.cred_graph.proofs.NodeListLemmas.{listeners_in, members_in}
 use Rattle.cred_graph.proofs.tables.Tables.add_listener.Goals as goal
 
 pub returns-then-has : goal.returns-then-has

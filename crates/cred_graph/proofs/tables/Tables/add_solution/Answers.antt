@@ -1,9 +1,8 @@
 use Rattle.std.proofs.Common.{refl}
 use Rattle.std.proofs.lemmas.Result.{IfOk-from_err}
 use Rattle.cred_graph.proofs.ListenerLemmas.{far_same}
-use Rattle.cred_graph.proofs.Lists.{Contains-at_place, on_err}
+use Rattle.cred_graph.proofs.NodeListLemmas.{Contains-at_place, on_err, listeners_in, members_in}
 use Rattle.cred_graph.proofs.SolutionLemmas.{entry_added, members_added, members_same}
-use Rattle.cred_graph.proofs.NodeListLemmas.{listeners_in, members_in}
 use Rattle.cred_graph.proofs.tables.Tables.add_solution.Goals as goal
 
 pub returns-in-Some : goal.returns-in-Some

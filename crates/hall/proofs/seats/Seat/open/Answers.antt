@@ -49,7 +49,7 @@ returns-in_err-begin c =
       number = tt;
       opened = tt;
       refused = refl;
-      unchanged = c.self.view_is;
+      unchanged = (λ i. record { limits = c.self.inside.limits; opens = c.self.inside.opens; searches = from_entries (c.give_back.ensures i) }) ∙ c.self.view_is;
       same = c.in_ok-snapshot.ensures.same;
       entered = tt;
       kept = c.in_ok-enter.ensures.kept;
@@ -63,7 +63,7 @@ returns-in_err-insert c =
       number = tt;
       opened = tt;
       refused = refl;
-      unchanged = (λ i. record { limits = c.self.inside.limits; opens = c.self.inside.opens; searches = from_entries (c.in_err-insert.ensures.err i) }) ∙ c.self.view_is;
+      unchanged = (λ i. record { limits = c.self.inside.limits; opens = c.self.inside.opens; searches = from_entries ((c.in_err-insert.ensures.err ∙ c.give_back.ensures) i) }) ∙ c.self.view_is;
       same = c.in_ok-snapshot.ensures.same;
       entered = tt;
       kept = c.in_ok-enter.ensures.kept;
@@ -80,9 +80,8 @@ begun c =
 pub returns : goal.returns
 returns c =
     let s = c.self.inside in
-    let searches = ap (from_entries {R = _}) c.give_back.ensures
-    ∙ inserted numbers_exact (◌==◌) unsigned_tied s.searches c.insert.new.self (s.opens + 1) c.in_ok-begin.field-0 c.in_ok-insert.ensures.updates
-    ∙ ap (insert (from_entries s.searches.entries) (s.opens + 1)) (begun (goal.at.returns c).After-branch-insert) in
+    let searches = inserted numbers_exact (◌==◌) unsigned_tied c.give_back.new.searches c.insert.new.self (s.opens + 1) c.in_ok-begin.field-0 c.in_ok-insert.ensures.updates
+    ∙ (λ i. insert (from_entries (c.give_back.ensures i)) (s.opens + 1) (begun (goal.at.returns c).After-branch-insert i)) in
     record {
       allowed = allowed (goal.at.returns c).After-branch-enter;
       number = ap (λ (t : Tenant). t.opens + 1) c.self.view_is;

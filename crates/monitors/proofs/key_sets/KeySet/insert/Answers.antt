@@ -1,15 +1,14 @@
 use Rattle.std.proofs.Common.{◌≡◌, ◌++◌, [], false, sym, ap, ◌∙◌, arith}
 use Rattle.std.specs.List.{list_any}
 use Rattle.std.proofs.lemmas.Result.{err_from_is_err_and}
-use Rattle.monitors.proofs.KeyLemmas.{is_new, near_lacks, near_adds, far_adds}
+use Rattle.monitors.proofs.KeyLemmas.{is_new, near_has, near_lacks, near_adds, far_adds}
 use Rattle.monitors.proofs.key_sets.KeySet.insert.Given.{Over}
 use Rattle.monitors.proofs.key_sets.KeySet.insert.Goals as goal
 use Rattle.monitors.proofs.key_sets.KeySet.insert.Goals.{After-len}
 
 -- none of the first ones is the key
 lacks : (g : Over) (c : After-len g) → list_any (λ other. g.K.PartialEq.eq other c.args.key) c.self.inside.near.items ≡ false
-lacks g c =
-    sym (c.if-contains.ensures.value ∙ ap (list_any (λ other. g.K.PartialEq.eq other c.args.key)) c.deref.ensures.value)
+lacks g c = sym (c.if-contains.ensures.value ∙ ap (list_any (λ other. g.K.PartialEq.eq other c.args.key)) c.deref.ensures.value)
 
 pub invariant_of-self : goal.invariant_of-self
 invariant_of-self g c few = c.self.invariant (omega (arith, few, c.in_err-push.ensures.len))
@@ -64,3 +63,8 @@ returns g c =
       growth = tt;
       unchanged = tt;
     })
+
+pub returns-then-contains : goal.returns-then-contains
+returns-then-contains g c =
+    let has = sym (c.if-contains.ensures.value ∙ ap (list_any (λ other. g.K.PartialEq.eq other c.args.key)) c.deref.ensures.value) in
+    rw (← c.self.view_is) (record { ok = near_has g.K.PartialEq.eq g.met.K.Eq.laws g.met.K.Key.exact c.self.inside.near.items c.self.inside.far.keys c.args.key has; growth = tt; unchanged = tt })

@@ -9,7 +9,7 @@ use Rattle.monitors.specs.Made.{made_or}
 use Rattle.monitors.specs.MeetMonitor.{told_order, MeetLines, IsUntold, HasKeysOf, lines_of, pairs_of, named}
 use Rattle.monitors.specs.declared.keyed_meets.MeetTable.{MeetTable}
 use Rattle.monitors.specs.declared.tellers.Tellers.{Tellers}
-use Rattle.monitors.proofs.MadeLemmas.{seen_still}
+use Rattle.monitors.proofs.KeyLemmas.{seen_still}
 use Rattle.monitors.proofs.keyed_meets.KeyedMeet.part_told.Given.{Over}
 use Rattle.monitors.proofs.keyed_meets.KeyedMeet.part_told.Goals as goal
 use Rattle.monitors.proofs.keyed_meets.KeyedMeet.part_told.Goals.{After-make, After-deref_mut}
@@ -52,10 +52,7 @@ was g c = ap (λ (t : MeetTable g.row.K.Denot). t.lines.entries) c.deref_mut.ens
 pub hear-requires : goal.hear-requires
 hear-requires g c =
     let is = was g (goal.at.hear-requires g c).After-deref_mut in
-    record {
-      table = rw is c.self.invariant;
-      part = rw (← c.self.view_is) at c.requires;
-    }
+    record { table = rw is c.self.invariant; part = rw (← c.self.view_is) at c.requires }
 
 pub returns : goal.returns
 returns g c =

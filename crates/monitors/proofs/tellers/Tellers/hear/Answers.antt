@@ -1,6 +1,6 @@
 use Rattle.std.proofs.Common.{◌+◌, ◌≤◌, ◌∙◌, sym, ap, arith, false, length-set}
 use Rattle.std.proofs.lemmas.List.{get_or_past}
-use Rattle.monitors.proofs.CountLemmas.{how_many, how_many-le, how_many-set}
+use Rattle.monitors.proofs.TableLemmas.{how_many, how_many-le, how_many-set}
 use Rattle.monitors.proofs.tellers.Tellers.hear.Goals as goal
 
 pub overflow_add-self : goal.overflow_add-self

@@ -3,8 +3,7 @@ use Rattle.std.proofs.Common.{◌≡◌, [], Bool, Contains, List, ap, ◌∙◌
 use Rattle.std.proofs.lemmas.Result.{IfOk-weaker, err_from_is_err_and}
 use Rattle.monitors.specs.LinkMonitor.{AddsKey}
 use Rattle.monitors.specs.Made.{keys_in}
-use Rattle.monitors.proofs.KeyLemmas.{now_told}
-use Rattle.monitors.proofs.MadeLemmas.{seen_still}
+use Rattle.monitors.proofs.KeyLemmas.{now_told, seen_still}
 use Rattle.monitors.proofs.told_keys.ToldKeys.hear.Given.{Over}
 use Rattle.monitors.proofs.told_keys.ToldKeys.hear.Goals as goal
 use Rattle.monitors.proofs.told_keys.ToldKeys.hear.Goals.{After-make}

@@ -2,7 +2,7 @@ use Rattle.proof_trees.proofs.tests_below.of_cred_graph.listens_by_number.Goals 
 
 pub add_numbered_listener-requires : goal.add_numbered_listener-requires
 add_numbered_listener-requires c = record {
-  asked = c.in-Some.ensures.within;
-  asker = c.in-Some-number_of.ensures.within;
-  port = (_, c.in-Some-entity_number.ensures);
+  asked = c.in-Some.ensures;
+  asker = c.in-Some-number_in.ensures;
+  port = c.in-Some-entity_number.ensures;
 }

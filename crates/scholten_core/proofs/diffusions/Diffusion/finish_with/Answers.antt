@@ -127,8 +127,7 @@ letter_there-letter-requires g c =
     (c.args.number, stands, held_found c.reserve.new.self.letters c.args.number is_held (lookup (λ n. n == c.args.number) c.reserve.new.self.letters) (λ none. none))
 
 pub finish-requires : goal.finish-requires
-finish-requires g c =
-    (c.args.number, c.place-at.ensures, held g (goal.at.finish-requires g c).After-reserve)
+finish-requires g c = (c.args.number, c.place-at.ensures, held g (goal.at.finish-requires g c).After-reserve)
 
 pub send-requires : goal.send-requires
 send-requires g c =

@@ -1,4 +1,4 @@
-use Rattle.std.proofs.Common.{◌≡◌, ◌+◌, ◌++◌, [], ◌∷◌, false, sym, ap, ◌∙◌, subst, refl}
+use Rattle.std.proofs.Common.{◌≡◌, ◌+◌, ◌++◌, [], ◌∷◌, false, sym, ap, ◌∙◌, subst, refl, arith}
 use Rattle.scholten_core.specs.declared.parents.Parent.TheVariants.{Environment}
 use Rattle.scholten_core.specs.Kept.{IsKept, engaged_from, held_in}
 use Rattle.scholten_core.specs.Step.{started}
@@ -27,5 +27,8 @@ pub invariant_of-self-2 : goal.invariant_of-self-2
 invariant_of-self-2 g c =
     subst (λ d. IsKept d 1 c.clear-2.new.self.items) (sym (first g (goal.at.invariant_of-self-2 g c).After-push)) (started_kept c.args.root c.args.load c.clear-2.new.self.items c.clear-2.ensures.items)
 
-pub returns-clause-sound : goal.returns-clause-sound
-returns-clause-sound g c = (invariant_of-self-2 g c).sound
+pub push-requires : goal.push-requires
+push-requires g c = record { room = c.restart.ensures.room (omega (arith, c.in_ok-reserve.ensures.room)); numbers = omega (arith, c.restart.ensures.sent); from = refl }
+
+pub returns : goal.returns
+returns g c = record { started = first g c; unchanged = tt; sound = (invariant_of-self-2 g c).sound }

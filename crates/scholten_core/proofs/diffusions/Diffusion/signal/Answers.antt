@@ -1,6 +1,6 @@
 use Rattle.std.proofs.Common.{◌++◌, option_to_list, ap, ◌∙◌, arith}
 use Rattle.scholten_core.proofs.Delivered.{IsSignalled, signalled_fields}
-use Rattle.scholten_core.proofs.Same.{hit-self}
+use Rattle.scholten_core.proofs.Trees.{hit-self}
 use Rattle.scholten_core.proofs.Steps.{deficit-delivered}
 use Rattle.scholten_core.specs.Kept.{held_in}
 use Rattle.scholten_core.proofs.diffusions.Diffusion.signal.Given.{Over}

@@ -1,6 +1,6 @@
 use Rattle.std.proofs.Common.{◌≡◌, ◌∙◌, filter, is_some, refl, rules}
 use Rattle.std.proofs.lemmas.Fn.{filter_same}
-use Rattle.scholten_core.proofs.Counts.{standing-full}
+use Rattle.scholten_core.proofs.Standing.{standing-full}
 use Rattle.scholten_core.proofs.Tables.{dropped}
 use Rattle.scholten_core.proofs.letter_tables.LetterTable.drop_holes.Given.{Over}
 use Rattle.scholten_core.proofs.letter_tables.LetterTable.drop_holes.Goals as goal

@@ -47,8 +47,7 @@ pub invariant_of-self : goal.invariant_of-self
 invariant_of-self g c = rw c.leave_hole.ensures.hole (holed g (goal.at.invariant_of-self g c).After-self)
 
 pub invariant_of-self-else-behind-len : goal.invariant_of-self-else-behind-len
-invariant_of-self-else-behind-len g c =
-    rw c.leave_hole.ensures.hole (holed g (goal.at.invariant_of-self-else-behind-len g c).After-self)
+invariant_of-self-else-behind-len g c = rw c.leave_hole.ensures.hole (holed g (goal.at.invariant_of-self-else-behind-len g c).After-self)
 
 pub returns-then-behind-len : goal.returns-then-behind-len
 returns-then-behind-len g c =
@@ -67,5 +66,4 @@ returns-else-behind-len g c =
     })
 
 pub leave_hole-requires : goal.leave_hole-requires
-leave_hole-requires g c =
-    key_within c.requires.0 c.self.inside.letters.items c.args.at (key g (goal.at.leave_hole-requires g c).After-self)
+leave_hole-requires g c = key_within c.requires.0 c.self.inside.letters.items c.args.at (key g (goal.at.leave_hole-requires g c).After-self)

@@ -1,7 +1,7 @@
 use Rattle.std.proofs.Common.{◌≡◌, ◌-◌, vec_capacity, vec_len, ℕ, ◌++◌, [], ◌∷◌, None, refl, sym, ◌∙◌, arith, ap, subst, length, ◌≤◌, length-append}
 use Rattle.scholten_core.specs.Computation.{waiting}
 use Rattle.scholten_core.specs.LetterTable.{standing}
-use Rattle.scholten_core.proofs.Counts.{length-waiting, popped_hole, standing-none}
+use Rattle.scholten_core.proofs.Standing.{length-waiting, popped_hole, standing-none}
 use Rattle.scholten_core.proofs.Tables.{cut_ends, holes-popped, numbered-popped, standing-popped, take-popped, waits-popped}
 use Rattle.scholten_core.proofs.letter_tables.LetterTable.pop_holes.Given.{Over}
 use Rattle.scholten_core.proofs.letter_tables.LetterTable.pop_holes.Goals as goal
@@ -34,8 +34,7 @@ loop-self-preserved g c =
 
 -- where nothing but holes stands no letter does
 none : (g : Over) (c : Then-self-len g) → standing c.self.inside.letters.items ≡ []
-none g c =
-    standing-none c.self.inside.letters.items (omega (arith, c.self.invariant.gone, c.len.ensures, c.self.inside.letters.ok, c.if-self-len.true))
+none g c = standing-none c.self.inside.letters.items (omega (arith, c.self.invariant.gone, c.len.ensures, c.self.inside.letters.ok, c.if-self-len.true))
 
 pub invariant_of-self : goal.invariant_of-self
 invariant_of-self g c =
@@ -74,8 +73,4 @@ invariant_of-self-2 g c =
     rw (c.min-self-inside.ensures, c.min-self-inside-2.ensures, c.len-2.ensures ∙ c.loop-self.self-inside.letters.ok.0, c.len-3.ensures ∙ c.loop-self.self-inside.letters.ok.0) (cut_ends _ _ _ c.loop-self.self-inside.first c.loop-self.self-inside.last c.loop-self.self-inside.letters.items kept.numbers kept.waiting kept.gone kept.before kept.all)
 
 pub returns : goal.returns
-returns g c = record {
-  letters = c.loop-self.invariant.letters;
-  sent = c.loop-self.invariant.sent;
-  room = c.loop-self.invariant.room;
-}
+returns g c = record { letters = c.loop-self.invariant.letters; sent = c.loop-self.invariant.sent; room = c.loop-self.invariant.room }

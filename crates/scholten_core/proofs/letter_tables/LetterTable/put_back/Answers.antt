@@ -51,5 +51,4 @@ returns g c =
     })
 
 pub hold-requires : goal.hold-requires
-hold-requires g c =
-    key_within c.args.number c.self.inside.letters.items c.unwrap-at.result (rw c.unwrap-at.ensures at c.place_of.ensures)
+hold-requires g c = key_within c.args.number c.self.inside.letters.items c.unwrap-at.result (rw c.unwrap-at.ensures at c.place_of.ensures)

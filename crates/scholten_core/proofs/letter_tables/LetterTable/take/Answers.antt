@@ -4,8 +4,7 @@ use Rattle.std.specs.Map.{keys_of}
 use Rattle.scholten_core.specs.declared.letters.Letter.{Letter}
 use Rattle.scholten_core.specs.Computation.{waiting}
 use Rattle.scholten_core.specs.LetterTable.{set_value_at, standing}
-use Rattle.scholten_core.proofs.Counts.{WaitingLetter, length-waiting, letter_waiting, waiting-at, waits_within}
-use Rattle.scholten_core.proofs.Standing.{key_get, keys-set_value, length-numbered_le, standing-change}
+use Rattle.scholten_core.proofs.Standing.{WaitingLetter, length-waiting, letter_waiting, waiting-at, waits_within, key_get, keys-set_value, length-numbered_le, standing-change}
 use Rattle.scholten_core.proofs.Tables.{taken}
 use Rattle.scholten_core.proofs.letter_tables.LetterTable.take.Given.{Over}
 use Rattle.scholten_core.proofs.letter_tables.LetterTable.take.Goals as goal
@@ -38,13 +37,11 @@ overflow_add-self g c =
     omega (arith, waits_within c.self.inside.letters.items c.args.place c.seek-at.result c.seek-at.ensures, length-numbered_le 0 c.self.inside.letters.items c.self.inside.sent c.self.invariant.numbers, c.self.ranges)
 
 pub hold-requires : goal.hold-requires
-hold-requires g c =
-    waits_within c.self.inside.letters.items c.args.place c.seek-at.result c.seek-at.ensures
+hold-requires g c = waits_within c.self.inside.letters.items c.args.place c.seek-at.result c.seek-at.ensures
 
 -- the waiting letter
 slot : (g : Over) (c : After-hold g) → WaitingLetter c.self.inside.letters.items c.seek-at.result c.hold.result c.hold.ensures.0
-slot g c =
-    letter_waiting c.self.inside.letters.items c.args.place c.seek-at.result c.hold.result c.hold.ensures.0 c.seek-at.ensures c.hold.ensures.1
+slot g c = letter_waiting c.self.inside.letters.items c.args.place c.seek-at.result c.hold.result c.hold.ensures.0 c.seek-at.ensures c.hold.ensures.1
 
 -- what is written there
 written : (g : Over) (c : After-hold g) → c.hold.new.letters.items ≡ set_value_at c.self.inside.letters.items c.seek-at.result (Some (record (slot g c).letter { held = true }))

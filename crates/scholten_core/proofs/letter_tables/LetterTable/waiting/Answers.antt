@@ -1,5 +1,5 @@
 use Rattle.std.proofs.Common.{◌∙◌, sym}
-use Rattle.scholten_core.proofs.Counts.{length-waiting}
+use Rattle.scholten_core.proofs.Standing.{length-waiting}
 use Rattle.scholten_core.proofs.letter_tables.LetterTable.waiting.Goals as goal
 
 pub returns : goal.returns

@@ -1,8 +1,10 @@
-use Rattle.std.proofs.Common.{ℕ, List, subst, sym, All}
+use Rattle.std.proofs.Common.{◌∙◌, ◌∷◌, [], ℕ, List, All, ap, map, subst, sym}
 use Rattle.std.proofs.lemmas.List.Elements.{All-push}
 use Rattle.search.specs.declared.letters.Load.{Load}
-use Rattle.search.specs.Answers.{Progress}
-use Rattle.search.specs.Net.{IsLoad}
+use Rattle.std.proofs.lemmas.List.{map-append}
+use Rattle.search.specs.Answers.{Progress, progress}
+use Rattle.search.specs.Net.{IsLoad, Said, load_at}
+use Rattle.search.specs.Numbered.{monitor_at, progress_at}
 use Rattle.search.proofs.findings.Findings.send.Goals as goal
 
 pub invariant_of-self-2 : goal.invariant_of-self-2
@@ -15,3 +17,8 @@ invariant_of-self-2 c =
       monitors = c.self.invariant.monitors;
       ports = c.self.invariant.ports;
     }
+
+pub returns-clause-sent : goal.returns-clause-sent
+returns-clause-sent c =
+    rw (← c.self.view_is) (ap (λ (os : List (ℕ × Said)). progress_at c.self.inside.graph c.self.inside.monitors.items os) c.in-Ok.ensures.items
+    ∙ ap (progress c.self.inside.graph (map (monitor_at c.self.inside.graph.nodes) c.self.inside.monitors.items)) (map-append (λ (o : ℕ × Said). (o.0, load_at c.self.inside.graph.nodes o.1)) c.self.inside.outs.items ((c.args.to, c.args.load) ∷ [])))

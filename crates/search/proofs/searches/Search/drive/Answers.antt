@@ -11,8 +11,7 @@ pub loop-init : goal.loop-init
 loop-init c = IsDriven.rests
 
 pub loop-smaller : goal.loop-smaller
-loop-smaller c =
-    made_left c.loop.self c.make_step.new.self (c.make_step.ensures.made c.loop-test.true)
+loop-smaller c = made_left c.loop.self c.make_step.new.self (c.make_step.ensures.made c.loop-test.true)
 
 pub loop-preserved : goal.loop-preserved
 loop-preserved c = driven_more c.args.self.now c.loop.self c.make_step.new.self c.loop.invariant (c.make_step.ensures.made c.loop-test.true)

@@ -1,6 +1,6 @@
 -- What was made so far are steps of a drive, and fewer are left after each.
 use Rattle.search.specs.Finish.{IsDriven}
-use Rattle.search.proofs.Holding.{steps_left}
+use Rattle.search.proofs.Searching.{steps_left}
 use Rattle.search.proofs.searches.Search.drive.Given as goal
 
 abbrev pub invariant-loop : goal.invariant-loop

@@ -6,7 +6,7 @@ use Rattle.scholten_core.specs.Computation.{waiting}
 use Rattle.search.specs.declared.stages.Stage.{Stage}
 use Rattle.search.specs.Stage.{IsQuiet, NoneHeld}
 use Rattle.search.specs.Search.{SearchState, IsOutstanding}
-use Rattle.search.proofs.Holding.{settles}
+use Rattle.search.proofs.Searching.{settles}
 use Rattle.search.proofs.searches.Search.is_quiet.Goals.{After-is_complete}
 use Rattle.search.proofs.searches.Search.is_quiet.Goals as goal
 

@@ -15,8 +15,7 @@ returns-clause-made c =
     c.in-Some.ensures.taken c.in-Some.ensures.settles c.receive_held-finished.ensures.receives c.receive_held-finished.ensures.settles
 
 pub receive_held-finished-requires-clause-held : goal.receive_held-finished-requires-clause-held
-receive_held-finished-requires-clause-held c =
-    c.in-Some.ensures.taken.2
+receive_held-finished-requires-clause-held c = c.in-Some.ensures.taken.2
 
 pub returns-then-signals-gt0-clause-made : goal.returns-then-signals-gt0-clause-made
 returns-then-signals-gt0-clause-made c =

@@ -1,7 +1,6 @@
 -- A new search keeps what it has to.
 use Rattle.std.proofs.Common.{◌∙◌, ap}
 use Rattle.std.specs.Arc.{arc_value}
-use Rattle.search.specs.declared.stages.Stage.TheVariants as stage
 use Rattle.search.specs.Answers.{Progress}
 use Rattle.search.specs.Search.{new_search}
 use Rattle.search.proofs.Searching.{first_graph, opened_kept}
@@ -10,8 +9,8 @@ use Rattle.search.proofs.searches.Search.open_in.Goals as goal
 pub invariant_of-result : goal.invariant_of-result
 invariant_of-result c =
     let found = c.first.new.self in
-    opened_kept (record { query = c.args.query; work = c.args.work; snapshot = arc_value c.args.snapshot; graph = found.graph; monitors = found.monitors; stage = stage.Running c.in_ok-running.running })
-    (ap (λ (s : Progress). s.graph) c.in_ok-first.ensures.found ∙ ap first_graph c.role.ensures) (ap (λ (s : Progress). s.monitors) c.in_ok-first.ensures.found) (ap stage.Running c.in_ok-running.ensures.started) c.requires c.in_ok-first.ensures.laws
+    opened_kept (record { query = c.args.query; work = c.args.work; snapshot = arc_value c.args.snapshot; graph = found.graph; monitors = found.monitors; stage = c.begin.new.self })
+    (ap (λ (s : Progress). s.graph) c.in_ok-first.ensures.found ∙ ap first_graph c.role.ensures) (ap (λ (s : Progress). s.monitors) c.in_ok-first.ensures.found) c.in_ok-begin.ensures.started c.requires c.in_ok-first.ensures.laws
 
 pub returns : goal.returns
 unfolding new_search
@@ -24,5 +23,5 @@ returns c =
       snapshot = arc_value c.args.snapshot;
       graph = graph i;
       monitors = monitors i;
-      stage = stage.Running (c.in_ok-running.ensures.started i);
+      stage = c.in_ok-begin.ensures.started i;
     }

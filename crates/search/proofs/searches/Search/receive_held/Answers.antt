@@ -1,5 +1,7 @@
 -- A held letter is awaited by its receiver, whose receipt keeps what a search keeps.
-use Rattle.std.proofs.Common.{◌≡◌, ap, refl, sym, subst, [], ℕ, List}
+use Rattle.std.proofs.Common.{◌≡◌, ap, option_copied, refl, sym, subst, [], ℕ, List}
+use Rattle.credential_text.specs.declared.exprs.Expr.{Expr}
+use Rattle.cred_graph.specs.Graph.{IsNode}
 use Rattle.vaults.specs.Journal.{credentials}
 use Rattle.snapshots.specs.Snapshot.{SnapshotState, IsOrdered}
 use Rattle.search.specs.declared.stages.Stage.TheVariants as stage
@@ -7,7 +9,7 @@ use Rattle.search.specs.Net.{IsLoad, Said, Words, load_at, outs_at, sent_of}
 use Rattle.search.specs.Answers.{Progress, progress, Answers, Awaits}
 use Rattle.search.specs.Stage.{HoldsLetter, letter_in}
 use Rattle.search.specs.Search.{SearchState, IsKept, asked_role}
-use Rattle.search.specs.Finish.{Receives}
+use Rattle.search.specs.Finish.{IsSpanFor, Receives}
 use Rattle.search.specs.contracts.searches.Search.{the_view}
 use Rattle.search.proofs.Searching.{held_awaits, held_loads, broken_kept}
 use Rattle.search.proofs.Answered.{held_outstanding, same_question, settles}
@@ -103,3 +105,9 @@ returns-in-Err-clause-settles c =
     let t : SearchState = record s { graph = c.receive.new.found.graph; monitors = c.receive.new.found.monitors; stage = stage.Broken } in
     rw c.break_off.ensures (settles c.self.view_is (same_question s t.graph t.monitors stage.Broken) (broken_kept t refl)
     (held_outstanding s.stage c.args.letter (letter_in h) (held_letter_is s.stage c.args.letter h (in_hand (goal.at.returns-in-Err-clause-settles c).After-clear))))
+
+pub receive-requires-clause-span : goal.receive-requires-clause-span
+receive-requires-clause-span c = λ e at.
+    let to = c.args.held.now.to in
+    let span = subst (λ (x : SearchState). (e' : Expr) → IsNode x.graph to e' → IsSpanFor x.snapshot.vaults e' (option_copied c.args.looked_up)) (sym c.self.view_is) c.requires.span in
+    rw c.deref-snapshot.ensures (span e (rw c.clear.ensures at at))

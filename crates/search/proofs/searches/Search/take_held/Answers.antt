@@ -4,7 +4,7 @@ use Rattle.std.specs.Option.{IfSome}
 use Rattle.search.specs.Net.{IsLoad}
 use Rattle.search.specs.Search.{SearchState, Settles}
 use Rattle.search.specs.contracts.searches.Search.{the_view}
-use Rattle.search.proofs.Taking.{TakenOrNot, MayTake, taken_loads, taken_or_not}
+use Rattle.search.proofs.Finishing.{TakenOrNot, MayTake, taken_loads, taken_or_not}
 use Rattle.search.proofs.searches.Search.take_held.Goals as goal
 use Rattle.search.proofs.searches.Search.take_held.Goals.{After-hold}
 

@@ -1,9 +1,14 @@
-use Rattle.std.proofs.Common.{List, ◌≡◌, ◌∙◌, arith, ap, length}
+use Rattle.std.proofs.Common.{Bool, true, false, List, ◌≡◌, ◌∙◌, arith, ap, refl, length}
+use mir.Val.{bool_byte}
 use Rattle.vaults.specs.declared.changes.Entry.{Entry}
-use Rattle.vaults.specs.Journal.{entries_of, vault, readers}
+use Rattle.vaults.specs.Journal.{entries_of, vault, readers, one_if}
 use Rattle.vaults.specs.Page.{PageState}
 use Rattle.vaults.proofs.PageLemmas.{page_found, page_missing}
 use Rattle.vaults.proofs.books.Book.used_by.Goals as goal
+
+counted : (b : Bool) → bool_byte b ≡ one_if b
+counted true = refl
+counted false = refl
 
 pub returns-in-Some-clause-creds : goal.returns-in-Some-clause-creds
 returns-in-Some-clause-creds c =
@@ -17,7 +22,7 @@ returns-in-Some-clause-grants c =
     c.readers_len.ensures.count
     ∙ ap (λ (k : PageState). length k.readers) (page_found c.self.inside.journal.kept.0 c.self.inside.pages c.args.who.now _ c.self.invariant.pages_are c.in-Some.ensures.value)
     ∙ ap (λ (j : List Entry). length (readers j c.args.who.now)) c.self.view_is in
-    omega (arith, one_each, c.public_of-public.ensures.count)
+    omega (arith, one_each, c.from-public.ensures, counted c.is_public.result, ap one_if c.is_public.ensures)
 
 pub returns-in-Some-clause-changes : goal.returns-in-Some-clause-changes
 returns-in-Some-clause-changes c =
@@ -35,7 +40,7 @@ returns-in-None-clause-grants c =
     let none : 0 ≡ length (readers c.args.self.now c.args.who.now) =
     ap (λ (k : PageState). length k.readers) (page_missing c.self.inside.journal.kept.0 c.self.inside.pages c.args.who.now c.self.invariant.pages_are c.in-None.ensures.value)
     ∙ ap (λ (j : List Entry). length (readers j c.args.who.now)) c.self.view_is in
-    omega (arith, none, c.public_of-public.ensures.count)
+    omega (arith, none, c.from-public.ensures, counted c.is_public.result, ap one_if c.is_public.ensures)
 
 pub returns-in-None-clause-changes : goal.returns-in-None-clause-changes
 returns-in-None-clause-changes c =
