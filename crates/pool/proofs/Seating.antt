@@ -4,7 +4,7 @@ use Rattle.std.proofs.lemmas.Bool.Decides.{eqb_tells}
 use mathlib.Core.Option.{none, some, some-ne-none, some-injective}
 use mathlib.Core.List.{IsPrefix}
 use lib.ListN.{get_elem?}
-use Rattle.atomic_table.specs.Table.{State, Me, keeps, step, Allows, Splits, Joins}
+use Rattle.atomic_table.specs.Table.{State, Me, Step, keeps, step, Allows, Splits, Joins}
 use Rattle.atomic_table.proofs.Lists.{at_set}
 use Rattle.pool.specs.declared.turns.Item.{Item}
 use Rattle.pool.specs.declared.seats.Knows.{Knows}
@@ -122,6 +122,36 @@ adds by v slots f i knows named own s (seat, drawn, history, owner, fits) homes 
         ap (own_of v.name) known.2 ∙ sym has.2,
       ),
     )
+
+-- the keeper compares a beginning with all
+abbrev pub Looks : Step ℕ → Me ℕ Knows → ℕ → Me ℕ Knows → Type 0
+Looks s v found w = (w.0 ≡ record v.0 { seen = v.0.all }) × (w.1 ≡ v.1) × IsPrefix v.0.seen v.0.all
+
+looks_idle : (by : ℕ) (v : Knows) (slots : ℕ) (f : ℕ → ℕ) → v.keeps ≡ true → v.named ≡ true →
+    Allows rule slots by (v, []) 0 f (Looks (step slots 0 0 0 none) (v, []))
+looks_idle by v slots f knows named s (seat, drawn, history, owner, fits) homes at word =
+    let mine = fits by v at in
+    let known = mine.0 knows in
+    let has = mine.1 named in
+    let w : Knows = record v { seen = v.all } in (
+      w,
+      keeps,
+      tt,
+      (
+        seat,
+        drawn,
+        history,
+        owner,
+        fits_set (Fits seat drawn history owner) s.views by w (λ j u apart e. fits j u e)
+            ((λ _. known), (λ _. (has.0, has.1, ap (own_of v.name) known.2)), subst (λ l. IsPrefix l history) (sym known.2) (prefix_self history)),
+      ),
+      (refl, refl, subst (λ l. IsPrefix v.seen l) (sym known.2) mine.2),
+    )
+
+pub looks : (by : ℕ) (me : Me ℕ Knows) (slots : ℕ) (f : ℕ → ℕ) → me.0.keeps ≡ true → me.0.named ≡ true → me.1 ≡ [] →
+    Allows rule slots by me 0 f (Looks (step slots 0 0 0 none) me)
+looks by me slots f knows named idle =
+    subst (λ (c : List (ℕ × ℕ)). Allows rule slots by (me.0, c) 0 f (Looks (step slots 0 0 0 none) (me.0, c))) (sym idle) (looks_idle by me.0 slots f knows named)
 
 -- a seat more, under a name that was not drawn before
 pub draws : (by drawn : ℕ) (all : List Item) → Splits rule by (keeper drawn all) (keeper (drawn + 1) all) (adds_under drawn all)

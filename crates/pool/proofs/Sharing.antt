@@ -1,5 +1,6 @@
 -- The accepted changes of each name add up to all.
 use Rattle.std.proofs.Common.{◌≡◌, ◌≢◌, ◌∙◌, ◌+◌, ◌-◌, ◌<◌, ◌≤◌, ℕ, zero, suc, List, [], ◌∷◌, ◌++◌, length, length-append, ap, sym, refl, arith, inl, inr, subst}
+use mathlib.Core.List.{IsPrefix}
 use Rattle.std.specs.List.{fold, range_with_len, sum_by}
 use Rattle.std.proofs.lemmas.List.Sums.{sum_by-append}
 use Rattle.std.proofs.lemmas.Bool.Decides.{eqb_tells}
@@ -36,6 +37,10 @@ accepted_first i items = journal_longer (entered_by [] i) items
 pub accepted_append : (xs ys : List Item) → accepted_in (xs ++ ys) ≡ accepted_in xs + accepted_in ys
 accepted_append [] ys = omega arith
 accepted_append (i ∷ xs) ys = omega (arith, accepted_first i (xs ++ ys), accepted_first i xs, accepted_append xs ys)
+
+-- of a beginning it is no more
+pub seen_accepted : (xs ys : List Item) → IsPrefix xs ys → accepted_in xs ≤ accepted_in ys
+seen_accepted xs ys begins = omega (arith, ap accepted_in begins.1, accepted_append xs begins.0)
 
 -- what the journal grew by
 pub more_accepted : (before after : ℕ) (told : List Item) (i : Item) → before ≡ accepted_in told → after ≡ accepted_in (told ++ i ∷ []) → after ≡ before + accepted_in (i ∷ [])

@@ -8,12 +8,13 @@ use Rattle.atomic_table.specs.Seated.{TableId}
 use Rattle.pool.specs.declared.{turns.Item.Item, seats.Knows.Knows}
 use Rattle.pool.specs.Histories.{own_of}
 
--- what names the ledgers and the history of a desk
+-- what names the ledgers, the history and the rights of a desk
 pub record Names : Type 0 where
   pub ledger : ℕ
   pub parts : ℕ
   pub table : TableId
   pub letters : ℕ
+  pub rights : ℕ
 
 -- the seat that knows all that was told, and how many names were drawn
 abbrev pub keeper : ℕ → List Item → Knows

@@ -1,6 +1,6 @@
 //! A hall under one lock: passes ask of it, and workers work for it.
 ghost use Rattle.std.specs.Prelude.{◌≡◌, ◌↔◌, ◌⊎◌, ◌+◌, ◌<◌, ◌≤◌, true, false, [], length, map, vec_len, None, Contains};
-ghost use Rattle.std.specs.Prelude.{IfOk, IfErr, IfSome, IfNone, OnOk, OnErr};
+ghost use Rattle.std.specs.Prelude.{All, IfOk, IfErr, IfSome, IfNone, OnOk, OnErr};
 ghost use Rattle.std.specs.List.{IsDistinct, sum_by};
 ghost use Rattle.std.specs.Sync.Mutex.{mutex_guard_value};
 ghost use Rattle.names.specs.Name.{is_same};
@@ -16,8 +16,9 @@ ghost use Rattle.pool.specs.Workers.{IsEndBy, IsLeftBy};
 
 use crate::bells::Bells;
 use crate::faults::{DeskFault, DeskResult};
-use crate::keepers::{Front, Naming, Unnamed};
-use crate::passes::Pass;
+use crate::keepers::{Beginning, Naming, Unnamed};
+use crate::passes::{Ended, Pass};
+use crate::rights::{Admission, Authority};
 use crate::rooms::{Room, Served, read_off, verdict_on};
 use crate::tallies::Tally;
 use crate::verdicts::{Gathered, Ticket, Verdict};
@@ -75,28 +76,30 @@ impl<L: Naming> Drop for Desk<L> {
 }
 
 impl<L: Naming> Desk<L> {
-    /// A desk of these tenants, who have done nothing yet. No pass is out.
+    /// A desk of these tenants, who have done nothing yet, and the authority over it. No pass is out.
     pub fn make(
         alloc: Global,
         roster: Vec<(Entity, Limits)>,
         unnamed: Unnamed,
-    ) -> Result<Desk<L>, Fault>
+    ) -> Result<(Desk<L>, Authority<L>), Fault>
         requires roster { roster.items ≡ L.roster }
         requires distinct { IsDistinct is_same (map (λ row. row.0) roster.items) }
-        requires named { unnamed ≡ record { ledger = L.name; parts = L.parts; table = L.table; letters = L.letters } }
-        ensures tenants { IfOk result (λ desk. desk ≡ map (λ row. row.0) roster.items) }
+        requires named { unnamed ≡ record { ledger = L.name; parts = L.parts; table = L.table; letters = L.letters; rights = L.rights } }
+        ensures tenants { IfOk result (λ made. made.0 ≡ map (λ row. row.0) roster.items) }
         ensures only_memory { IfErr result (λ f. f ≡ Fault.Memory) }
     {
         let over = Bells::make(alloc, &roster)?;
         let hall = Hall::make(alloc, roster)?;
-        Ok(Desk {
+        let (room, authority) = Room::new(hall, unnamed);
+        let desk = Desk {
             alloc,
-            room: Mutex::new(Room::new(hall, unnamed)),
+            room: Mutex::new(room),
             over,
             work: Condvar::new(),
             next: Mutex::new(()),
             line: Mutex::new(()),
-        })
+        };
+        Ok((desk, authority))
     }
 
     /// For a call: takes the lock, after some tries by sleep. While a worker goes on alone it sleeps at once where others have the
@@ -134,18 +137,24 @@ impl<L: Naming> Desk<L> {
         let _next = self.next.lock(rt);
     }
 
-    /// A new pass of a tenant, which has made no call. Refused as 62 to a stranger, and as 90 where 2^32 passes are out.
-    pub fn pass<R: Wait>(&self, rt: &R, who: Entity) -> DeskResult<Pass<L>>
+    /// A new pass of a tenant, which has made no call. The right to it is used up. It comes back where a pass is refused: as 62 to a
+    /// stranger, and as 90 where 2^32 passes are out.
+    pub fn pass<R: Wait>(
+        &self,
+        rt: &R,
+        admission: Admission<L>,
+        who: Entity,
+    ) -> Result<Pass<L>, (Admission<L>, DeskFault)>
         ensures tenant { IfOk result (λ p. p.tenant ≡ who) }
         ensures none { IfOk result (λ p. own_of p.name p.seen ≡ []) }
         ensures known { OnOk result (Contains self.now who) }
-        ensures refused { IfErr result IsPassRefusal }
-        ensures stranger { IfErr result (λ f. (f ≡ DeskFault.Hall Fault.NoTenant) ↔ (Contains self.now who → ⊥)) }
+        ensures refused { IfErr result (λ e. IsPassRefusal e.1) }
+        ensures stranger { IfErr result (λ e. (e.1 ≡ DeskFault.Hall Fault.NoTenant) ↔ (Contains self.now who → ⊥)) }
     {
         if !self.over.has(&who) {
-            return Err(DeskFault::Hall(Fault::NoTenant));
+            return Err((admission, DeskFault::Hall(Fault::NoTenant)));
         }
-        self.enter(rt).admit(who)
+        self.enter(rt).admit(admission, who)
     }
 
     /// Serves the pass's tenant. Refused as the hall refuses.
@@ -282,27 +291,29 @@ impl<L: Naming> Desk<L> {
         }
     }
 
-    /// Takes a pass back. Its share counts as that of a pass that left.
-    pub fn leave<R: Wait>(&self, rt: &R, pass: Pass<L>) {
+    /// Takes a pass back, by which no call is made any more. Its share counts as that of a pass that left.
+    pub fn leave<R: Wait>(&self, rt: &R, pass: Ended<L>) {
         self.enter(rt).leave(pass);
     }
 
-    /// Takes back all passes that are out, and tells how many changes were accepted, and of how many of them passes had been
-    /// told that left before. Each that was told counts once. Where another pass is out they come back, with 92.
+    /// Takes back all passes that are out, and tells how many changes were accepted, all that these have seen among them, and of how
+    /// many of them passes had been told that left before. Each that was told counts once. Where another pass is out they come back,
+    /// with 92.
     pub fn gather<R: Wait>(
         &self,
         rt: &R,
         passes: Vec<Pass<L>>,
     ) -> Result<Gathered, (DeskFault, Vec<Pass<L>>)>
         ensures total { IfOk result (λ g. g.length ≡ g.left + sum_by share_of passes.items) }
+        ensures seen { IfOk result (λ g. All (λ p. accepted_in p.seen ≤ g.length) passes.items) }
         ensures out { IfErr result (λ e. (e.0 ≡ DeskFault.PassesOut) × (e.1.items ≡ passes.items)) }
     {
         self.enter(rt).gather(passes)
     }
 
-    /// Lets the workers end once they have given back what they hold, and ends each wait.
-    pub fn stop<R: Wait>(&self, rt: &R) {
-        let notice = self.enter(rt).stop();
+    /// Lets the workers end once they have given back what they hold, and ends each wait, for who has the authority.
+    pub fn stop<R: Wait>(&self, rt: &R, authority: &Authority<L>) {
+        let notice = self.enter(rt).stop(authority);
         notice.ring(&self.over, &self.work);
     }
 
@@ -326,7 +337,7 @@ impl<L: Naming> Desk<L> {
         ends: &mut Ends,
         line: &mut Option<MutexGuard<'_, ()>>,
         tally: &mut Tally<L>,
-    ) -> Result<Option<Front<L>>, AllocError>
+    ) -> Result<Option<Beginning<L>>, AllocError>
         requires looked_up { IsLookedUp batch.old }
         requires space { BATCH ≤ batch.old.room }
         requires told { ends.old ≡ [] }
@@ -386,7 +397,7 @@ impl<L: Naming> Desk<L> {
         turn: u64,
         next: Next,
         ends: &mut Ends,
-    ) -> Result<Option<Front<L>>, AllocError>
+    ) -> Result<Option<Beginning<L>>, AllocError>
         requires { (next ≡ Next.Idle) ⊎ (next ≡ Next.Unasked) → (mutex_guard_value room).stopped ≡ true }
         ensures end { IsEndBy next result }
         ensures told { ends.new ≡ [] }

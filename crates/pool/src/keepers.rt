@@ -3,7 +3,8 @@ ghost use Rattle.std.specs.Prelude.{ℕ, ◌≡◌, ◌-◌, ◌^◌, ◌++◌, 
 ghost use mathlib.Core.List.{IsPrefix};
 ghost use Rattle.pool.specs.Histories.{own_of, IsLegal, item_of};
 
-use crate::seats::{Add, Borrowed, Fresh, Knows, Law, Telling};
+use crate::rights::{self, Admission, Authority};
+use crate::seats::{Add, Borrowed, Fresh, Knows, Law, Look, Telling};
 use crate::tallies;
 use crate::turns::Noted;
 use atomic_table::{Seat, Table};
@@ -22,6 +23,8 @@ pub trait Naming: Ledger {
 
     ghost letters: { ℕ };
 
+    ghost rights: { ℕ };
+
     ghost roster: { List (List ℕ × Quota) };
 }
 
@@ -32,20 +35,23 @@ impl Naming for Brand {
 
     ghost letters = { 0 };
 
+    ghost rights = { 0 };
+
     ghost roster = { [] };
 }
 
 /// How many parts the ledger of a desk has: one for each pass that may be out, and one that stays.
 const PARTS: u64 = (1 << 32) + 1;
 
-/// A history in which nothing stands and ledgers in which nothing is counted, of accepted changes and of finished letters, which
-/// have no name yet. Contracts see what names them.
+/// A history in which nothing stands, ledgers in which nothing is counted, of accepted changes and of finished letters, and the
+/// rights over a desk, which have no name yet. Contracts see what names them.
 #[derive(Drop)]
 pub struct Unnamed {
     table: Table<u8, Knows, (), Law, Global>,
     seat: Seat<u8, Knows>,
     blank: Blank,
     letters: Blank,
+    rights: Blank,
 }
 
 impl Model for Unnamed {
@@ -59,6 +65,7 @@ impl Model for Unnamed {
       parts = u.blank.parts;
       table = u.table.shared.table_id;
       letters = u.letters.name;
+      rights = u.rights.name;
     } };
 
     ghost invariant = { λ u.
@@ -66,7 +73,8 @@ impl Model for Unnamed {
         × (u.table.shared.table_id.words ≡ 1)
         × (u.seat.me ≡ (keeper 0 [], []))
         × (u.blank.parts ≡ 2 ^ 32 + 1)
-        × (u.letters.parts ≡ 2 ^ 64 - 1) };
+        × (u.letters.parts ≡ 2 ^ 64 - 1)
+        × (u.rights.parts ≡ 1) };
 }
 
 impl Unnamed {
@@ -78,12 +86,13 @@ impl Unnamed {
             seat,
             blank: Blank::new(PARTS),
             letters: Blank::new(tallies::PARTS),
+            rights: Blank::new(rights::PARTS),
         })
     }
 
-    /// The keeper of the history and the ledgers, under a name.
-    pub(crate) fn named<J: Naming>(self) -> (Keeper<J>, Blank, Blank)
-        requires { self ≡ record { ledger = J.name; parts = J.parts; table = J.table; letters = J.letters } }
+    /// The keeper of the history, the ledgers, and the authority, under a name.
+    pub(crate) fn named<J: Naming>(self) -> (Keeper<J>, Blank, Blank, Authority<J>)
+        requires { self ≡ record { ledger = J.name; parts = J.parts; table = J.table; letters = J.letters; rights = J.rights } }
         ensures keeper { result.0 ≡ [] }
         ensures ledger { (result.1.name ≡ J.name) × (result.1.parts ≡ J.parts) × (result.1.parts ≡ PARTS) }
         ensures letters { (result.2.name ≡ J.letters) × (result.2.parts ≡ 2 ^ 64 - 1) }
@@ -93,13 +102,14 @@ impl Unnamed {
             seat,
             blank,
             letters,
+            rights,
         } = self;
         let keeper = Keeper {
             table,
             seat,
             of: PhantomData,
         };
-        (keeper, blank, letters)
+        (keeper, blank, letters, Authority::of(rights))
     }
 }
 
@@ -165,9 +175,46 @@ impl<J: Naming> Model for Front<J> {
         × IsLegal J.roster f.seat.me.0.seen };
 }
 
+/// What a front had seen by which nothing is added any more. Contracts see it as the front.
+#[derive(Drop)]
+pub struct Beginning<J: Naming> {
+    front: Front<J>,
+}
+
+impl<J: Naming> Model for Beginning<J> {
+    ghost use Rattle.std.specs.Coded.{codes};
+    ghost use Rattle.std.specs.FinMap as fin;
+    ghost use Rattle.search.specs.contracts.stages.Stage as running;
+    ghost use Rattle.search.specs.contracts.findings.Monitor as memory;
+    ghost use Rattle.pool.specs.Histories.{FrontState};
+
+    ghost Value = { FrontState };
+
+    ghost coded = { Prim.hlevel (codes, fin.code, running.the_row.coded, memory.the_row.coded) };
+
+    ghost view = { λ b. b.front };
+}
+
 impl<J: Naming> Keeper<J> {
+    /// A front that has seen all, under a name of which there is no item, for who has the right to be let in.
+    pub fn front(&mut self, _admission: Admission<J>) -> Front<J>
+        ensures seen { result.seen ≡ self.old }
+        ensures own { own_of result.name result.seen ≡ [] }
+        ensures same { self.new ≡ self.old }
+    {
+        self.fresh()
+    }
+
+    /// All that is there, as one that adds nothing has seen it.
+    pub fn seen(&mut self) -> Beginning<J>
+        ensures seen { result.seen ≡ self.old }
+        ensures same { self.new ≡ self.old }
+    {
+        self.fresh().end()
+    }
+
     /// A front that has seen all, under a name of which there is no item.
-    pub fn front(&mut self) -> Front<J>
+    fn fresh(&mut self) -> Front<J>
         ensures seen { result.seen ≡ self.old }
         ensures own { own_of result.name result.seen ≡ [] }
         ensures same { self.new ≡ self.old }
@@ -178,6 +225,19 @@ impl<J: Naming> Keeper<J> {
             seat,
             of: PhantomData,
         }
+    }
+
+    /// Takes back a front that adds nothing any more. What it had seen is a beginning of what is there.
+    pub fn take_back(&mut self, ended: Beginning<J>)
+        ensures began { IsPrefix ended.seen self.old }
+        ensures same { self.new ≡ self.old }
+    {
+        let Beginning { front } = ended;
+        let Front { seat, of: _ } = front;
+        let table = &self.table;
+        table.shared.join_seat::<Borrowed>(&mut self.seat, seat);
+        let _word = table.shared.load::<Look>(&mut self.seat, 0);
+        let _seat = table.shared.split_seat::<Borrowed>(&mut self.seat);
     }
 
     /// Goes on by what was noted, under the name of the front, and shows all to it. It had seen a beginning of what was there
@@ -200,7 +260,7 @@ impl<J: Naming> Keeper<J> {
         ensures front { front.new ≡ record front.old { seen = self.new } }
         ensures history { self.new ≡ self.old ++ item_of front.old.name noted.now ∷ [] }
     {
-        let other = self.front();
+        let other = self.fresh();
         let Front { seat, of: _ } = mem::replace(front, other);
         let table = &self.table;
         table.shared.join_seat::<Borrowed>(&mut self.seat, seat);
@@ -215,6 +275,13 @@ impl<J: Naming> Keeper<J> {
 }
 
 impl<J: Naming> Front<J> {
+    /// Adds nothing any more.
+    pub fn end(self) -> Beginning<J>
+        ensures { result ≡ self }
+    {
+        Beginning { front: self }
+    }
+
     /// What was seen is legal.
     pub fn is_legal(&self)
         ensures { IsLegal J.roster self.now.seen }

@@ -5,7 +5,8 @@
 //! (`specs/Histories.antt`). Each call of `Desk` adds one item to it, which admits the call's reply, and a pass has seen a
 //! beginning of it with all of its own calls (`specs/Served.antt`). Each accepted change that was told counts once in a ledger
 //! too (`specs/Passes.antt`). Whom a call or a visit has to wake is told by a `Notice` (`specs/Rooms.antt`), which nobody can
-//! drop. That who is woken goes on is shown by tests, since no clause speaks of it.
+//! drop. That who is woken goes on is shown by tests, since no clause speaks of it. A pass is drawn by an `Admission`, and a desk
+//! stopped by its `Authority` (`src/rights.rt`): neither is had by a call.
 //! Why so: docs/DECISIONS.md#pool.
 #![tactic(auto)]
 
@@ -18,6 +19,7 @@ mod histories;
 mod keepers;
 mod notices;
 mod passes;
+mod rights;
 mod rooms;
 mod seats;
 mod tallies;
@@ -37,6 +39,7 @@ pub use histories::{
     sessions_are_runs, shares_add_up,
 };
 pub use keepers::{Naming, Unnamed};
-pub use passes::Pass;
+pub use passes::{Ended, Pass};
+pub use rights::{Admission, Authority};
 pub use verdicts::{Gathered, Ticket, Verdict};
 pub use workers::{Gate, NoGate, run_workers};

@@ -4,7 +4,7 @@ ghost use mathlib.Core.List.{IsPrefix};
 ghost use Rattle.pool.specs.Histories.{own_of, IsLegal, item_of};
 ghost use Rattle.pool.specs.Passes.{accepted_in, share_of};
 
-use crate::keepers::{Front, Keeper, Naming};
+use crate::keepers::{Beginning, Front, Keeper, Naming};
 use crate::turns::Noted;
 use names::Entity;
 use std::marker::Model;
@@ -116,13 +116,49 @@ impl<L: Naming> Pass<L> {
         self.front = after;
     }
 
-    /// Gives up the pass, and tells how many accepted changes it was told.
-    pub(crate) fn given_up(self) -> (Share<L>, u64)
+    /// Makes no call any more.
+    pub fn end(self) -> Ended<L>
+        ensures { result ≡ self }
+    {
+        Ended { pass: self }
+    }
+}
+
+/// A pass by which no call is made any more. Contracts see it as the pass.
+#[derive(Drop)]
+pub struct Ended<L: Naming> {
+    pass: Pass<L>,
+}
+
+impl<L: Naming> Model for Ended<L> {
+    ghost use Rattle.std.specs.Coded.{codes};
+    ghost use Rattle.std.specs.FinMap as fin;
+    ghost use Rattle.search.specs.contracts.stages.Stage as running;
+    ghost use Rattle.search.specs.contracts.findings.Monitor as memory;
+    ghost use Rattle.pool.specs.Passes.{PassState};
+
+    ghost Value = { PassState };
+
+    ghost coded = { Prim.hlevel (codes, fin.code, running.the_row.coded, memory.the_row.coded) };
+
+    ghost view = { λ e. e.pass };
+}
+
+impl<L: Naming> Ended<L> {
+    /// Its share, how many accepted changes it was told, and what it had seen.
+    pub(crate) fn given_up(self) -> (Share<L>, u64, Beginning<L>)
         ensures part { result.0.parts ≡ 1 }
         ensures amount { result.0.amount ≡ share_of self }
         ensures told { result.1 ≡ share_of self }
+        ensures seen { result.2.seen ≡ self.seen }
     {
-        let Pass { told, share, .. } = self;
-        (share, told)
+        let Ended { pass } = self;
+        let Pass {
+            told,
+            share,
+            seen,
+            ..
+        } = pass;
+        (share, told, seen.end())
     }
 }

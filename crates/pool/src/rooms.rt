@@ -1,6 +1,6 @@
 //! What lies under the lock of a desk: the hall with the keeper of its history, and the count of the changes of which passes were told.
-ghost use Rattle.std.specs.Prelude.{◌≡◌, ◌↔◌, ◌+◌, ◌<◌, ◌++◌, ◌∷◌, ℕ, true, false, [], length, vec_len};
-ghost use Rattle.std.specs.Prelude.{None, Err, option_map, IfSome, IfOk, IfErr, OnOk, OnErr};
+ghost use Rattle.std.specs.Prelude.{◌≡◌, ◌↔◌, ◌+◌, ◌<◌, ◌≤◌, ◌++◌, ◌∷◌, ℕ, true, false, [], length, vec_len};
+ghost use Rattle.std.specs.Prelude.{None, Err, option_map, All, IfSome, IfOk, IfErr, OnOk, OnErr};
 ghost use mathlib.Core.List.{IsPrefix};
 ghost use Rattle.std.specs.Arc.{arc_value};
 ghost use Rattle.std.specs.List.{sum_by};
@@ -11,15 +11,16 @@ ghost use Rattle.hall.specs.declared.calls.requests.Request.TheVariants as reque
 ghost use Rattle.hall.specs.{Work.StillWorks, Hall.IsServed, Hall.known, Hall.new_hall, Hall.search_at, Hall.told_as};
 ghost use Rattle.pool.specs.declared.turns.Item.TheVariants as item;
 ghost use Rattle.pool.specs.Histories.{own_of, HasStop, IsReadOff};
-ghost use Rattle.pool.specs.Passes.{share_of};
+ghost use Rattle.pool.specs.Passes.{accepted_in, share_of};
 ghost use Rattle.pool.specs.Rooms.{IsKept, request_concern};
 ghost use Rattle.pool.specs.Served.{IsAnswered, IsTold, Suits, IsLent, IsPolled, IsPolledIn, IsVerdict};
 ghost use Rattle.pool.specs.Verdicts.{IsTrueWhereCompleted};
 
 use crate::faults::{DeskFault, DeskResult};
-use crate::keepers::{Front, Keeper, Naming, Unnamed};
+use crate::keepers::{Beginning, Keeper, Naming, Unnamed};
 use crate::notices::{Concern, Notice};
-use crate::passes::Pass;
+use crate::passes::{Ended, Pass};
+use crate::rights::{Admission, Authority};
 use crate::tallies::Crew;
 use crate::turns::Noted;
 use crate::verdicts::{Gathered, Verdict};
@@ -91,15 +92,15 @@ impl<L: Naming> Model for Room<L> {
 }
 
 impl<L: Naming> Room<L> {
-    /// The room of a new hall, of which nothing was told yet, and where no pass is out.
-    pub(crate) fn new(hall: Hall, unnamed: Unnamed) -> Room<L>
+    /// The room of a new hall, of which nothing was told yet, and where no pass is out, and the authority over it.
+    pub(crate) fn new(hall: Hall, unnamed: Unnamed) -> (Room<L>, Authority<L>)
         requires hall { hall ≡ new_hall L.roster }
-        requires named { unnamed ≡ record { ledger = L.name; parts = L.parts; table = L.table; letters = L.letters } }
-        ensures { result ≡ record { hall = hall; told = []; out = 0; left = 0; stopped = false } }
+        requires named { unnamed ≡ record { ledger = L.name; parts = L.parts; table = L.table; letters = L.letters; rights = L.rights } }
+        ensures { result.0 ≡ record { hall = hall; told = []; out = 0; left = 0; stopped = false } }
     {
-        let (keeper, blank, letters) = unnamed.named::<L>();
+        let (keeper, blank, letters, authority) = unnamed.named::<L>();
         let (book, rest) = blank.open::<L>();
-        Room {
+        let room = Room {
             hall,
             keeper,
             book,
@@ -109,7 +110,8 @@ impl<L: Naming> Room<L> {
             left: 0,
             stopped: false,
             asleep: 0,
-        }
+        };
+        (room, authority)
     }
 
     /// What the lock keeps.
@@ -119,21 +121,25 @@ impl<L: Naming> Room<L> {
         let _length = self.hall.journal_len();
     }
 
-    /// A new pass of this tenant, which has seen all that was told, and has made no call.
-    pub(crate) fn admit(&mut self, who: Entity) -> DeskResult<Pass<L>>
+    /// A new pass of this tenant, which has seen all that was told, and has made no call. The right to it is used up, or comes back.
+    pub(crate) fn admit(
+        &mut self,
+        admission: Admission<L>,
+        who: Entity,
+    ) -> Result<Pass<L>, (Admission<L>, DeskFault)>
         ensures pass { IfOk result (λ p. p ≡ record { tenant = who; name = p.name; seen = self.old.told }) }
         ensures none { IfOk result (λ p. own_of p.name p.seen ≡ []) }
         ensures ok { OnOk result (self.new ≡ record self.old { out = self.old.out + 1 }) }
-        ensures refused { IfErr result (λ f. f ≡ DeskFault.Hall Fault.Memory) }
+        ensures refused { IfErr result (λ e. e.1 ≡ DeskFault.Hall Fault.Memory) }
         ensures full { OnErr result (self.old.out ≡ MOST_OUT) }
         ensures err { OnErr result (self.new ≡ self.old) }
     {
         if self.out == MOST_OUT {
-            return Err(DeskFault::Hall(Fault::Memory));
+            return Err((admission, DeskFault::Hall(Fault::Memory)));
         }
         let share = self.rest.split_off(1, 0);
         self.out += 1;
-        let seen = self.keeper.front();
+        let seen = self.keeper.front(admission);
         Ok(Pass::new(who, self.hall.journal_len(), share, seen))
     }
 
@@ -263,13 +269,15 @@ impl<L: Naming> Room<L> {
         self.stopped || !is_working
     }
 
-    /// Takes a pass back, with its share.
-    pub(crate) fn leave(&mut self, pass: Pass<L>)
+    /// Takes a pass back, with its share. It had seen a beginning of what was told.
+    pub(crate) fn leave(&mut self, pass: Ended<L>)
+        ensures seen { IsPrefix pass.seen self.old.told }
         ensures out { self.new.out + 1 ≡ self.old.out }
         ensures left { self.new.left ≡ self.old.left + share_of pass }
         ensures room { self.new ≡ record self.old { out = self.new.out; left = self.new.left } }
     {
-        let (share, told) = pass.given_up();
+        let (share, told, seen) = pass.given_up();
+        self.keeper.take_back(seen);
         self.rest.merge(share);
         self.book.audit(&mut self.rest);
         let _length = self.hall.journal_len();
@@ -283,6 +291,7 @@ impl<L: Naming> Room<L> {
         passes: Vec<Pass<L>>,
     ) -> Result<Gathered, (DeskFault, Vec<Pass<L>>)>
         ensures total { IfOk result (λ g. g.length ≡ g.left + sum_by share_of passes.items) }
+        ensures seen { IfOk result (λ g. All (λ p. accepted_in p.seen ≤ g.length) passes.items) }
         ensures found { IfOk result (λ g. (g.length ≡ length self.old.hall.journal) × (g.left ≡ self.old.left)) }
         ensures all_in { OnOk result (vec_len passes ≡ self.old.out) }
         ensures room { OnOk result (self.new ≡ record self.old { out = 0; left = length self.old.hall.journal }) }
@@ -295,7 +304,7 @@ impl<L: Naming> Room<L> {
         }
         let left = self.left;
         for pass in passes {
-            self.leave(pass);
+            self.leave(pass.end());
         }
         self.book.audit(&mut self.rest);
         Ok(Gathered {
@@ -324,22 +333,22 @@ impl<L: Naming> Room<L> {
     }
 
     /// All that was told, which has the stop.
-    pub(crate) fn stop_seen(&mut self) -> Front<L>
+    pub(crate) fn stop_seen(&mut self) -> Beginning<L>
         requires { self.old.stopped ≡ true }
         ensures stop { HasStop result.seen }
         ensures same { self.new ≡ self.old }
     {
-        self.keeper.front()
+        self.keeper.seen()
     }
 
     /// No worker goes on from now on, and no caller waits, which concerns everybody. The stop is told under a name of its own.
-    pub(crate) fn stop(&mut self) -> Notice
+    pub(crate) fn stop(&mut self, authority: &Authority<L>) -> Notice
         ensures told { (name : ℕ) × (self.new.told ≡ self.old.told ++ item.Stopped name ∷ []) }
         ensures stopped { self.new ≡ record self.old { told = self.new.told; stopped = true } }
         ensures notice { result ≡ Concern.Everybody }
     {
         let _length = self.hall.journal_len();
-        let mut front = self.keeper.front();
+        let mut front = self.keeper.front(authority.admission());
         self.keeper.tell(&mut front, &Noted::Stopped);
         self.stopped = true;
         Notice::of(Concern::Everybody)

@@ -48,6 +48,16 @@ impl<T: Telling> Play<u8, Knows> for Add<T> {
     ghost then = { Adds T.item };
 }
 
+/// The keeper compares a beginning with all.
+pub struct Look;
+
+impl Play<u8, Knows> for Look {
+    ghost use Rattle.std.specs.Prelude.{◌≡◌};
+    ghost use mathlib.Core.List.{IsPrefix};
+
+    ghost then = { λ s v found w. (w.0 ≡ record v.0 { seen = v.0.all }) × (w.1 ≡ v.1) × IsPrefix v.0.seen v.0.all };
+}
+
 /// A seat with a fresh name that has seen all.
 pub struct Fresh;
 

@@ -9,7 +9,8 @@ ghost use Rattle.pool.specs.Workers.{IsLeftBy};
 
 use crate::desks::Desk;
 use crate::faults::{DeskFault, DeskResult};
-use crate::keepers::{Front, Naming};
+use crate::keepers::{Beginning, Naming};
+use crate::rights::Authority;
 use crate::tallies::Tally;
 use crate::visits::BATCH;
 use hall::{Batch, Ends, Fault};
@@ -66,7 +67,7 @@ fn look_up_all<G: Gate>(gate: &G, batch: &mut Batch)
 #[derive(Drop)]
 pub(crate) struct Worked<L: Naming> {
     tally: Tally<L>,
-    seen: Front<L>,
+    seen: Beginning<L>,
 }
 
 impl<L: Naming> Model for Worked<L> {
@@ -138,7 +139,7 @@ fn go_on<L: Naming, G: Gate, R: Wait>(
     batch: &mut Batch,
     ends: &mut Ends,
     tally: &mut Tally<L>,
-) -> Result<Front<L>, AllocError>
+) -> Result<Beginning<L>, AllocError>
     requires fresh { batch.old.looked ≡ 0 }
     requires room { BATCH ≤ batch.old.room }
     requires told { ends.old ≡ [] }
@@ -177,7 +178,7 @@ fn visit_in_a_row<L: Naming, G: Gate, R: Wait>(
     ends: &mut Ends,
     line: &mut Option<MutexGuard<'_, ()>>,
     tally: &mut Tally<L>,
-) -> Result<Option<Front<L>>, AllocError>
+) -> Result<Option<Beginning<L>>, AllocError>
     requires fresh { batch.old.looked ≡ 0 }
     requires room { BATCH ≤ batch.old.room }
     requires told { ends.old ≡ [] }
@@ -235,23 +236,26 @@ fn join_all<L: Naming, R: Threads>(
 
 /// Runs `n` workers until the desk is stopped, and answers how many letters they finished. The gate is passed once with each. A
 /// worker to which memory is refused hands in what it holds and ends; the answer is then 90, once all have ended, and a `wait`
-/// returns when the caller stops the desk. 93 where a worker couldn't be started: the desk is stopped, and the others end first.
+/// returns when the caller stops the desk. 93 where a worker couldn't be started: the desk is stopped, by the authority over it, and
+/// the others end first.
 pub fn run_workers<L: Naming + Send + Sync, G: Gate, R: Threads + Wait + Sync>(
     rt: &R,
     desk: &Desk<L>,
+    authority: &Authority<L>,
     n: u64,
     gate: &G,
 ) -> DeskResult<u64>
     requires { (1 ≤ n) × (n ≤ 64) }
     ensures { IfErr result IsWorkRefusal }
 {
-    Ok(run_all(rt, desk, n, gate)?.tally.letters())
+    Ok(run_all(rt, desk, authority, n, gate)?.tally.letters())
 }
 
 /// The same, with the tally of all workers.
 fn run_all<L: Naming + Send + Sync, G: Gate, R: Threads + Wait + Sync>(
     rt: &R,
     desk: &Desk<L>,
+    authority: &Authority<L>,
     n: u64,
     gate: &G,
 ) -> DeskResult<Worked<L>>
@@ -282,7 +286,7 @@ fn run_all<L: Naming + Send + Sync, G: Gate, R: Threads + Wait + Sync>(
                         requires { mine.workers ≡ 1 }
                     { work(rt, desk, gate, worker, mine) },
                 ) else {
-                    desk.stop(rt);
+                    desk.stop(rt, authority);
                     let _worked = join_all(rt, handles);
                     return Err(DeskFault::NoThread);
                 };

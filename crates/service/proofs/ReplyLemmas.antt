@@ -5,7 +5,7 @@ use Rattle.std.proofs.lemmas.List.Concat.{flat_map-append}
 use Rattle.std.proofs.lemmas.List.{append-nil}
 use Rattle.credential_text.specs.declared.credentials.Credential.{Credential}
 use Rattle.credential_text.specs.Spelling.{canonical}
-use Rattle.search.proofs.Loops.{take_next}
+use Rattle.search.proofs.Tells.{take_next}
 use Rattle.hall.specs.declared.calls.replies.Reply.{Reply}
 use Rattle.hall.specs.declared.calls.replies.Reply.TheVariants.{Refused}
 use Rattle.hall.specs.declared.faults.Fault.TheVariants.{Memory}

@@ -1,4 +1,4 @@
-//! Rights to call a desk that are none over it: who has a door is let in by it once, and who was let in makes its calls.
+//! Rights to call a desk that are none over it: who has a door is let in by it once, and who was let in makes its calls by its pass.
 ghost use Rattle.std.specs.Prelude.{◌≡◌, ◌↔◌, [], Contains, IfOk, IfErr, OnOk};
 ghost use Rattle.pool.specs.Histories.{own_of, IsLegal};
 ghost use Rattle.pool.specs.Refusals.{IsPassRefusal};
@@ -6,7 +6,7 @@ ghost use Rattle.pool.specs.Served.{IsTold, IsAnswered, Suits, IsWaited};
 
 use hall::{Fault, Reply, Request};
 use names::Entity;
-use pool::{Desk, DeskFault, DeskResult, Naming, Pass, Verdict};
+use pool::{Admission, Desk, DeskFault, DeskResult, Ended, Naming, Pass, Verdict};
 use std::marker::Model;
 use std::sync::Wait;
 
@@ -14,6 +14,7 @@ use std::sync::Wait;
 #[derive(Drop)]
 pub struct Door<'d, L: Naming> {
     desk: &'d Desk<L>,
+    admission: Admission<L>,
 }
 
 impl<'d, L: Naming> Model for Door<'d, L> {
@@ -47,11 +48,11 @@ impl<'d, L: Naming> Model for Caller<'d, L> {
 }
 
 impl<'d, L: Naming> Door<'d, L> {
-    /// A door to the desk.
-    pub fn of(desk: &'d Desk<L>) -> Door<'d, L>
+    /// A door to the desk, for who has the right to be let in.
+    pub fn of(desk: &'d Desk<L>, admission: Admission<L>) -> Door<'d, L>
         ensures { result ≡ desk.now }
     {
-        Door { desk }
+        Door { desk, admission }
     }
 
     /// Lets the tenant in by a new pass, which has made no call. Where `Desk::pass` refuses it so does this, and the door comes back.
@@ -67,10 +68,10 @@ impl<'d, L: Naming> Door<'d, L> {
         ensures refused { IfErr result (λ e. IsPassRefusal e.1) }
         ensures stranger { IfErr result (λ e. (e.1 ≡ DeskFault.Hall Fault.NoTenant) ↔ (Contains self.entry who → ⊥)) }
     {
-        let desk = self.desk;
-        match desk.pass(rt, who) {
+        let Door { desk, admission } = self;
+        match desk.pass(rt, admission, who) {
             Ok(pass) => Ok(Caller { desk, pass }),
-            Err(fault) => Err((self, fault)),
+            Err((admission, fault)) => Err((Door { desk, admission }, fault)),
         }
     }
 }
@@ -106,9 +107,9 @@ impl<L: Naming> Caller<'_, L> {
     }
 
     /// Makes no further call, and hands out the pass, which the desk may take back.
-    pub fn end(self) -> Pass<L>
+    pub fn end(self) -> Ended<L>
         ensures { result ≡ self.entry }
     {
-        self.pass
+        self.pass.end()
     }
 }

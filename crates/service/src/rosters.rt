@@ -14,7 +14,7 @@ use crate::writing::{WriteFault, write_reply};
 use hall::{Fault, Hall};
 use names::Entity;
 use names::texts::is_blank;
-use pool::{Desk, Naming, Unnamed};
+use pool::{Authority, Desk, Naming, Unnamed};
 use quotas::Limits;
 use std::alloc::{AllocError, Global};
 use std::io::{Read, Write};
@@ -102,12 +102,16 @@ impl Roster {
         Hall::make(alloc, self.tenants(alloc)?)
     }
 
-    /// A desk of the roster's tenants, who have done nothing.
+    /// A desk of the roster's tenants, who have done nothing, and the authority over it.
     #[tactic(auto, using(crate::proofs::TenantLemmas::names_of_tenants))]
-    pub fn desk<L: Naming>(&self, alloc: Global, unnamed: Unnamed) -> Result<Desk<L>, Fault>
+    pub fn desk<L: Naming>(
+        &self,
+        alloc: Global,
+        unnamed: Unnamed,
+    ) -> Result<(Desk<L>, Authority<L>), Fault>
         requires roster { map tenant_of self.now ≡ L.roster }
-        requires named { unnamed ≡ record { ledger = L.name; parts = L.parts; table = L.table; letters = L.letters } }
-        ensures tenants { IfOk result (λ desk. desk ≡ names_of self.now) }
+        requires named { unnamed ≡ record { ledger = L.name; parts = L.parts; table = L.table; letters = L.letters; rights = L.rights } }
+        ensures tenants { IfOk result (λ made. made.0 ≡ names_of self.now) }
         ensures only_memory { IfErr result (λ f. f ≡ Fault.Memory) }
     {
         Desk::make(alloc, self.tenants(alloc)?, unnamed)

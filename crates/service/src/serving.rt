@@ -14,7 +14,7 @@ use crate::rosters::Roster;
 use crate::sessions::serve_session;
 use crate::speakers::Speaker;
 use crate::writing::{WriteFault, write_reply};
-use pool::{Desk, DeskFault, Naming, NoGate, Unnamed, run_workers};
+use pool::{Authority, Desk, DeskFault, Naming, NoGate, Unnamed, run_workers};
 use std::alloc::Global;
 use std::io::{Read, Write};
 use std::marker::Brand;
@@ -80,12 +80,12 @@ fn serve_with<L: Naming + Send + Sync, R: Threads + Wait + Clock + Sync, W: Writ
     line: &mut ReplyBuffer,
 ) -> Result<u64, ServeFault>
     requires roster { map tenant_of roster.now ≡ L.roster }
-    requires named { unnamed ≡ record { ledger = L.name; parts = L.parts; table = L.table; letters = L.letters } }
+    requires named { unnamed ≡ record { ledger = L.name; parts = L.parts; table = L.table; letters = L.letters; rights = L.rights } }
     ensures count { IfOk result (λ n. options.accept ≡ Some n) }
     ensures told { OnOk result (WithPort (λ port. Appends (W.contents writer.old) (W.contents writer.new) (listening_line port))) }
     ensures fault { IfErr result (λ why. ServeWrote options.accept (Err why) (Appends (W.contents writer.old) (W.contents writer.new))) }
 {
-    let Ok(desk) = roster.desk::<L>(line.alloc(), unnamed) else {
+    let Ok((desk, authority)) = roster.desk::<L>(line.alloc(), unnamed) else {
         return Err(ServeFault::Memory);
     };
     let Ok(address) = listener.local_addr() else {
@@ -95,9 +95,21 @@ fn serve_with<L: Naming + Send + Sync, R: Threads + Wait + Clock + Sync, W: Writ
     let Ok(()) = tell(writer, line, b"listening 127.0.0.1:", port) else {
         return Err(ServeFault::Write);
     };
-    let desk = &desk;
-    let service = AtDesk { rt, desk, roster };
-    answer_beside_workers(rt, line.alloc(), desk, &service, listener, options)
+    let service = AtDesk {
+        rt,
+        desk: &desk,
+        authority: &authority,
+        roster,
+    };
+    answer_beside_workers(
+        rt,
+        line.alloc(),
+        &desk,
+        &authority,
+        &service,
+        listener,
+        options,
+    )
 }
 
 /// Writes a line of these words and this number.
@@ -116,11 +128,13 @@ fn tell<W: Write>(
     write_reply(out, line.as_slice())
 }
 
-/// The service at the desk of a roster's tenants.
+/// The service at the desk of a roster's tenants. It has the authority over the desk, of which a session gets the right to be let
+/// in once.
 #[derive(Drop)]
 struct AtDesk<'a, L: Naming, R> {
     rt: &'a R,
     desk: &'a Desk<L>,
+    authority: &'a Authority<L>,
     roster: &'a Roster,
     ghost tenants: { desk.now ≡ names_of roster.now },
 }
@@ -132,13 +146,21 @@ impl<L: Naming, R: Wait> Answers for AtDesk<'_, L, R> {
         reader: I,
         writer: &mut W,
     ) -> SessionEnd {
-        serve_session(self.rt, alloc, self.desk, self.roster, reader, writer)
+        serve_session(
+            self.rt,
+            alloc,
+            self.desk,
+            self.authority.admission(),
+            self.roster,
+            reader,
+            writer,
+        )
     }
 }
 
 impl<L: Naming, R: Wait> Service for AtDesk<'_, L, R> {
     fn stop(&self) {
-        self.desk.stop(self.rt);
+        self.desk.stop(self.rt, self.authority);
     }
 }
 
@@ -148,6 +170,7 @@ fn answer_beside_workers<L: Naming + Send + Sync, R: Threads + Wait + Clock + Sy
     rt: &R,
     alloc: Global,
     desk: &Desk<L>,
+    authority: &Authority<L>,
     service: &(impl Service + Sync),
     listener: TcpListener,
     options: ServeOptions,
@@ -163,7 +186,13 @@ fn answer_beside_workers<L: Naming + Send + Sync, R: Threads + Wait + Clock + Sy
             ensures { Answered options.accept result }
         {
             let Ok(working) = scope.spawn(move || {
-                let worked = run_workers(rt, desk, options.workers.clamp(1, 64), &NoGate);
+                let worked = run_workers(
+                    rt,
+                    desk,
+                    authority,
+                    options.workers.clamp(1, 64),
+                    &NoGate,
+                );
                 if worked.is_err() {
                     end_all(rt, service, arrivals);
                 }
@@ -179,7 +208,7 @@ fn answer_beside_workers<L: Naming + Send + Sync, R: Threads + Wait + Clock + Sy
                 arrivals,
                 options.accept,
             );
-            desk.stop(rt);
+            desk.stop(rt, authority);
             first_fault(worked_well(working.join(rt)), answered)
         },
     )

@@ -17,7 +17,7 @@ use crate::speakers::Speaker;
 use crate::words::{Arguments, is_same, is_word, next_word, split_words};
 use hall::Reply;
 use names::Entity;
-use pool::{Desk, DeskFault, Naming, Pass};
+use pool::{Admission, Desk, DeskFault, Ended, Naming};
 use std::alloc::Global;
 use std::io::{Read, Write};
 use std::marker::Model;
@@ -82,11 +82,12 @@ impl<L: Naming, R: Wait> Host for Session<'_, '_, L, R> {
     }
 }
 
-/// Serves a session at the desk, and gives its pass back to that.
+/// Serves a session at the desk, which has the right to be let in there once, and gives its pass back to that.
 pub fn serve_session<L: Naming, R: Wait, I: Read + Drop, W: Write>(
     rt: &R,
     alloc: Global,
     desk: &Desk<L>,
+    admission: Admission<L>,
     roster: &Roster,
     reader: I,
     writer: &mut W,
@@ -96,7 +97,7 @@ pub fn serve_session<L: Naming, R: Wait, I: Read + Drop, W: Write>(
         (λ input. (pass : Option PassState) × SessionWrote L.roster roster.now (commands_of input) result pass
         (Appends (W.contents writer.old) (W.contents writer.new))) }
 {
-    let (end, pass) = answer_session(rt, alloc, Door::of(desk), roster, reader, writer);
+    let (end, pass) = answer_session(rt, alloc, Door::of(desk, admission), roster, reader, writer);
     if let Some(pass) = pass {
         desk.leave(rt, pass);
     }
@@ -112,7 +113,7 @@ pub fn answer_session<L: Naming, R: Wait, I: Read + Drop, W: Write>(
     roster: &Roster,
     reader: I,
     writer: &mut W,
-) -> (SessionEnd, Option<Pass<L>>)
+) -> (SessionEnd, Option<Ended<L>>)
     requires tenants { door ≡ names_of roster.now }
     ensures { IfSome (I.remaining reader)
         (λ input. SessionWrote L.roster roster.now (commands_of input) result.0 result.1
@@ -139,7 +140,7 @@ pub fn answer_session<L: Naming, R: Wait, I: Read + Drop, W: Write>(
 
 impl<L: Naming, R: Wait> Session<'_, '_, L, R> {
     /// The pass that it has.
-    fn end(self) -> Option<Pass<L>>
+    fn end(self) -> Option<Ended<L>>
         ensures { result ≡ self.entry.pass }
     {
         match self.caller {

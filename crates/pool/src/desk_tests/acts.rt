@@ -1,7 +1,7 @@
 //! Calls of a desk as a table writes them, and what each is told.
 use super::turns::put_circle;
 use crate::tests_below::are_named;
-use crate::{Desk, DeskFault, Naming, Pass, Verdict};
+use crate::{Authority, Desk, DeskFault, Naming, Pass, Verdict};
 use credential_text::{CredFault, Credential, Expr, read_credential};
 use hall::{Answer, Fault, Query, Request};
 use names::{Entity, Role};
@@ -222,13 +222,19 @@ fn answered<L: Naming, R: Wait>(
     })
 }
 
-fn renewed<L: Naming, R: Wait>(rt: &R, desk: &Desk<L>, pass: &mut Pass<L>, who: Entity) -> Told {
-    match desk.pass(rt, who) {
+fn renewed<L: Naming, R: Wait>(
+    rt: &R,
+    desk: &Desk<L>,
+    authority: &Authority<L>,
+    pass: &mut Pass<L>,
+    who: Entity,
+) -> Told {
+    match desk.pass(rt, authority.admission(), who) {
         Ok(other) => {
-            desk.leave(rt, mem::replace(pass, other));
+            desk.leave(rt, mem::replace(pass, other).end());
             Told::Done
         }
-        Err(fault) => refused(fault),
+        Err((_admission, fault)) => refused(fault),
     }
 }
 
@@ -274,6 +280,7 @@ pub(super) fn answer_to<L: Naming, R: Wait>(
     rt: &R,
     alloc: Global,
     desk: &Desk<L>,
+    authority: &Authority<L>,
     pass: &mut Pass<L>,
     act: Act,
 ) -> Told {
@@ -284,13 +291,13 @@ pub(super) fn answer_to<L: Naming, R: Wait>(
         },
         Act::Wait(number) => waited(rt, desk, pass, number, None),
         Act::Pass(name) => match Entity::read(name.as_bytes()) {
-            Ok(who) => renewed(rt, desk, pass, who),
+            Ok(who) => renewed(rt, desk, authority, pass, who),
             Err(_) => Told::Otherwise,
         },
         Act::Share => Told::Share(pass.front(), pass.share()),
         Act::PutCircle => put_circle(rt, desk, pass),
         Act::Stop => {
-            desk.stop(rt);
+            desk.stop(rt, authority);
             Told::Done
         }
         _ => match request_of(alloc, act) {

@@ -1,6 +1,6 @@
 //! What workers do at the gate of a scene.
 use super::turns::{Stay, Turns};
-use crate::{Desk, Gate, Naming};
+use crate::{Authority, Desk, Gate, Naming};
 use names::Entity;
 use std::rt::Clock;
 use std::sync::Wait;
@@ -59,12 +59,18 @@ impl Meeting {
 }
 
 /// Ends the tenant's first search.
-fn end_first<L: Naming, R: Wait>(rt: &R, desk: &Desk<L>, who: Entity, over: &AtomicBool) {
-    let Ok(mut pass) = desk.pass(rt, who) else {
+fn end_first<L: Naming, R: Wait>(
+    rt: &R,
+    desk: &Desk<L>,
+    authority: &Authority<L>,
+    who: Entity,
+    over: &AtomicBool,
+) {
+    let Ok(mut pass) = desk.pass(rt, authority.admission(), who) else {
         return;
     };
     let ended = desk.end(rt, &mut pass, 1);
-    desk.leave(rt, pass);
+    desk.leave(rt, pass.end());
     over.store(ended.is_ok(), Ordering::SeqCst);
 }
 
@@ -73,6 +79,7 @@ fn end_first<L: Naming, R: Wait>(rt: &R, desk: &Desk<L>, who: Entity, over: &Ato
 pub(super) struct Doorway<'a, L: Naming, R> {
     pub(super) rt: &'a R,
     pub(super) desk: &'a Desk<L>,
+    pub(super) authority: &'a Authority<L>,
     pub(super) way: Way<'a>,
 }
 
@@ -85,7 +92,7 @@ impl<L: Naming + Send + Sync, R: Wait + Clock + Sync> Gate for Doorway<'_, L, R>
         match self.way {
             Way::Meet(meeting) | Way::MeetFirst(meeting) if letter == 1 => meeting.meet(self.rt),
             Way::End(over) if search == 1 && letter == 1 => {
-                end_first(self.rt, self.desk, *who, over)
+                end_first(self.rt, self.desk, self.authority, *who, over)
             }
             Way::TakeTurns(turns) => turns.note(search),
             Way::Stay(stay) => stay.pass(self.rt, search),

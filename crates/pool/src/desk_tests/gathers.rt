@@ -8,7 +8,7 @@ use super::gates::Way;
 use super::plays::{
     Break, Line, USUAL, admitted, come_back, finished, roster_of_two, tell_each, work,
 };
-use crate::{Desk, Naming, Pass, Unnamed};
+use crate::{Authority, Desk, Naming, Pass, Unnamed};
 use names::Entity;
 use quotas::Limits;
 use std::alloc::Global;
@@ -31,14 +31,15 @@ fn carry_on<L: Naming + Send + Sync, R: Threads + Wait + Clock + Sync>(
     rt: &R,
     alloc: Global,
     desk: &Desk<L>,
+    authority: &Authority<L>,
     passes: &mut Vec<Pass<L>>,
 ) -> Result<(), Break> {
     thread::scope(thread::scope_env(), rt, |scope| -> Result<(), Break> {
-        let Ok(all) = scope.spawn(move || work(rt, desk, 1, Way::Open)) else {
+        let Ok(all) = scope.spawn(move || work(rt, desk, authority, 1, Way::Open)) else {
             return Err(Break::NoMemory);
         };
-        let right = tell_each(rt, alloc, desk, passes, ENDED);
-        desk.stop(rt);
+        let right = tell_each(rt, alloc, desk, authority, passes, ENDED);
+        desk.stop(rt, authority);
         finished(all.join(rt), right)?;
         Ok(())
     })
@@ -49,16 +50,17 @@ fn go_on<L: Naming + Send + Sync, R: Threads + Wait + Clock + Sync>(
     rt: &R,
     alloc: Global,
     desk: &Desk<L>,
+    authority: &Authority<L>,
 ) -> Result<(), Break> {
-    let Ok(mut passes) = vec![in alloc; admitted(rt, desk, "A")?] else {
+    let Ok(mut passes) = vec![in alloc; admitted(rt, desk, authority, "A")?] else {
         return Err(Break::NoMemory);
     };
-    tell_each(rt, alloc, desk, &mut passes, OPENED)?;
-    let Ok(gathered) = vec![in alloc; admitted(rt, desk, "A")?] else {
+    tell_each(rt, alloc, desk, authority, &mut passes, OPENED)?;
+    let Ok(gathered) = vec![in alloc; admitted(rt, desk, authority, "A")?] else {
         return Err(Break::NoMemory);
     };
     come_back(rt, desk, gathered)?;
-    carry_on(rt, alloc, desk, &mut passes)
+    carry_on(rt, alloc, desk, authority, &mut passes)
 }
 
 /// So goes a desk of this roster.
@@ -70,10 +72,10 @@ fn at_a_desk<L: Naming + Send + Sync, R: Threads + Wait + Clock + Sync>(
 ) -> Result<(), Break>
     requires roster { roster.items ≡ L.roster }
     requires distinct { IsDistinct is_same (map (λ row. row.0) roster.items) }
-    requires named { unnamed ≡ record { ledger = L.name; parts = L.parts; table = L.table; letters = L.letters } }
+    requires named { unnamed ≡ record { ledger = L.name; parts = L.parts; table = L.table; letters = L.letters; rights = L.rights } }
 {
     match Desk::<L>::make(alloc, roster, unnamed) {
-        Ok(desk) => go_on(rt, alloc, &desk),
+        Ok((desk, authority)) => go_on(rt, alloc, &desk, &authority),
         Err(_) => Err(Break::NoMemory),
     }
 }

@@ -6,7 +6,7 @@ ghost use Rattle.names.specs.Name.{is_same};
 use super::acts::{Act, Told, answer_to};
 use super::gates::{Doorway, Passage, Way};
 use crate::tests_below::limits_of;
-use crate::{Desk, DeskFault, Naming, Pass, Unnamed, run_workers};
+use crate::{Authority, Desk, DeskFault, Naming, Pass, Unnamed, run_workers};
 use names::Entity;
 use quotas::Limits;
 use std::alloc::Global;
@@ -61,6 +61,7 @@ pub(super) fn tell_each<L: Naming, R: Wait>(
     rt: &R,
     alloc: Global,
     desk: &Desk<L>,
+    authority: &Authority<L>,
     passes: &mut Vec<Pass<L>>,
     lines: &[Line],
 ) -> Result<(), Break> {
@@ -68,7 +69,7 @@ pub(super) fn tell_each<L: Naming, R: Wait>(
         let Some(pass) = passes.get_mut(*place) else {
             return Err(Break::WrongAnswer);
         };
-        hold_against(&answer_to(rt, alloc, desk, pass, *act), wanted)?;
+        hold_against(&answer_to(rt, alloc, desk, authority, pass, *act), wanted)?;
     }
     Ok(())
 }
@@ -133,10 +134,11 @@ fn take_back<L: Naming, R: Wait>(
 pub(super) fn admitted<L: Naming, R: Wait>(
     rt: &R,
     desk: &Desk<L>,
+    authority: &Authority<L>,
     name: &str,
 ) -> Result<Pass<L>, Break> {
     match Entity::read(name.as_bytes()) {
-        Ok(who) => match desk.pass(rt, who) {
+        Ok(who) => match desk.pass(rt, authority.admission(), who) {
             Ok(pass) => Ok(pass),
             Err(_) => Err(Break::WrongAnswer),
         },
@@ -149,17 +151,23 @@ pub(super) fn admitted<L: Naming, R: Wait>(
 pub(super) fn work<L: Naming + Send + Sync, R: Threads + Wait + Clock + Sync>(
     rt: &R,
     desk: &Desk<L>,
+    authority: &Authority<L>,
     workers: u64,
     way: Way<'_>,
 ) -> Result<u64, DeskFault> {
-    let gate = Doorway { rt, desk, way };
+    let gate = Doorway {
+        rt,
+        desk,
+        authority,
+        way,
+    };
     let worked = match way {
         Way::MeetFirst(_) | Way::CountAlone(_) | Way::TakeTurns(_) => {
-            run_workers(rt, desk, workers.clamp(1, 64), &Passage(gate))
+            run_workers(rt, desk, authority, workers.clamp(1, 64), &Passage(gate))
         }
-        _ => run_workers(rt, desk, workers.clamp(1, 64), &gate),
+        _ => run_workers(rt, desk, authority, workers.clamp(1, 64), &gate),
     };
-    desk.stop(rt);
+    desk.stop(rt, authority);
     worked
 }
 
@@ -182,24 +190,25 @@ fn acted<L: Naming + Send + Sync, R: Threads + Wait + Clock + Sync>(
     rt: &R,
     alloc: Global,
     desk: &Desk<L>,
+    authority: &Authority<L>,
     passes: &mut Vec<Pass<L>>,
     scene: &Scene<'_>,
     way: Way<'_>,
 ) -> Result<u64, Break> {
     for name in scene.passes {
-        let pass = admitted(rt, desk, name)?;
+        let pass = admitted(rt, desk, authority, name)?;
         if passes.push(pass).is_err() {
             return Err(Break::NoMemory);
         }
     }
-    tell_each(rt, alloc, desk, passes, scene.before)?;
+    tell_each(rt, alloc, desk, authority, passes, scene.before)?;
     thread::scope(thread::scope_env(), rt, |scope| -> Result<u64, Break> {
         let workers = scene.workers;
-        let Ok(all) = scope.spawn(move || work(rt, desk, workers, way)) else {
+        let Ok(all) = scope.spawn(move || work(rt, desk, authority, workers, way)) else {
             return Err(Break::NoMemory);
         };
-        let right = tell_each(rt, alloc, desk, passes, scene.beside);
-        desk.stop(rt);
+        let right = tell_each(rt, alloc, desk, authority, passes, scene.beside);
+        desk.stop(rt, authority);
         finished(all.join(rt), right)
     })
 }
@@ -209,11 +218,12 @@ fn staged<L: Naming + Send + Sync, R: Threads + Wait + Clock + Sync>(
     rt: &R,
     alloc: Global,
     desk: &Desk<L>,
+    authority: &Authority<L>,
     scene: &Scene<'_>,
     way: Way<'_>,
 ) -> Result<u64, Break> {
     let mut passes = Vec::new(alloc);
-    let letters = acted(rt, alloc, desk, &mut passes, scene, way)?;
+    let letters = acted(rt, alloc, desk, authority, &mut passes, scene, way)?;
     take_back(rt, desk, passes, scene.left)?;
     Ok(letters)
 }
@@ -229,10 +239,10 @@ fn on_desk<L: Naming + Send + Sync, R: Threads + Wait + Clock + Sync>(
 ) -> Result<u64, Break>
     requires roster { roster.items ≡ L.roster }
     requires distinct { IsDistinct is_same (map (λ row. row.0) roster.items) }
-    requires named { unnamed ≡ record { ledger = L.name; parts = L.parts; table = L.table; letters = L.letters } }
+    requires named { unnamed ≡ record { ledger = L.name; parts = L.parts; table = L.table; letters = L.letters; rights = L.rights } }
 {
     match Desk::<L>::make(alloc, roster, unnamed) {
-        Ok(desk) => staged(rt, alloc, &desk, scene, way),
+        Ok((desk, authority)) => staged(rt, alloc, &desk, &authority, scene, way),
         Err(_) => Err(Break::NoMemory),
     }
 }

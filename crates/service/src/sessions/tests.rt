@@ -3,7 +3,7 @@ ghost use Rattle.service.specs.Roster.{names_of, tenant_of};
 
 use super::*;
 use crate::fakes::{Drips, NEVER, Refuses, Trickles, roster_of};
-use pool::{Desk, NoGate, Unnamed, run_workers};
+use pool::{Authority, Desk, NoGate, Unnamed, run_workers};
 use std::alloc::AllocError;
 use std::marker::Brand;
 use std::thread;
@@ -57,12 +57,13 @@ fn ends_at<L: Naming, R: Wait>(
     writer: &mut Trickles<'_>,
 ) -> bool
     requires roster { map tenant_of roster.now ≡ L.roster }
-    requires named { unnamed ≡ record { ledger = L.name; parts = L.parts; table = L.table; letters = L.letters } }
+    requires named { unnamed ≡ record { ledger = L.name; parts = L.parts; table = L.table; letters = L.letters; rights = L.rights } }
 {
-    let Ok(desk) = roster.desk::<L>(alloc, unnamed) else {
+    let Ok((desk, authority)) = roster.desk::<L>(alloc, unnamed) else {
         return false;
     };
-    let end = serve_session(rt, alloc, &desk, roster, reader, writer);
+    let admission = authority.admission();
+    let end = serve_session(rt, alloc, &desk, admission, roster, reader, writer);
     end == case.end && has_accepted(rt, alloc, &desk, case.changes)
 }
 
@@ -355,6 +356,7 @@ fn are_told<L: Naming, R: Wait>(
     rt: &R,
     alloc: Global,
     desk: &Desk<L>,
+    authority: &Authority<L>,
     roster: &Roster,
     talks: &[Talk],
 ) -> bool
@@ -362,7 +364,15 @@ fn are_told<L: Naming, R: Wait>(
 {
     for (said, told) in talks {
         let mut writer = Trickles::new(*told, None);
-        serve_session(rt, alloc, desk, roster, *said, &mut writer);
+        serve_session(
+            rt,
+            alloc,
+            desk,
+            authority.admission(),
+            roster,
+            *said,
+            &mut writer,
+        );
         if !writer.is_content() {
             return false;
         }
@@ -375,6 +385,7 @@ fn are_all_told<L: Naming + Send + Sync, R: Threads + Wait + Sync>(
     rt: &R,
     alloc: Global,
     desk: &Desk<L>,
+    authority: &Authority<L>,
     roster: &Roster,
 ) -> bool
     requires { desk.now ≡ names_of roster.now }
@@ -382,19 +393,19 @@ fn are_all_told<L: Naming + Send + Sync, R: Threads + Wait + Sync>(
     let (worked, beside) = thread::join(
         rt,
         || {
-            let worked = run_workers(rt, desk, 2, &NoGate);
-            desk.stop(rt);
+            let worked = run_workers(rt, desk, authority, 2, &NoGate);
+            desk.stop(rt, authority);
             worked.is_ok()
         },
         || {
-            let beside = are_told(rt, alloc, desk, roster, &BESIDE_WORKERS);
-            desk.stop(rt);
+            let beside = are_told(rt, alloc, desk, authority, roster, &BESIDE_WORKERS);
+            desk.stop(rt, authority);
             beside
         },
     );
     worked
         && beside
-        && are_told(rt, alloc, desk, roster, &AFTER_THE_STOP)
+        && are_told(rt, alloc, desk, authority, roster, &AFTER_THE_STOP)
         && has_accepted(rt, alloc, desk, 6)
 }
 
@@ -406,12 +417,12 @@ fn are_told_at<L: Naming + Send + Sync, R: Threads + Wait + Sync>(
     unnamed: Unnamed,
 ) -> bool
     requires roster { map tenant_of roster.now ≡ L.roster }
-    requires named { unnamed ≡ record { ledger = L.name; parts = L.parts; table = L.table; letters = L.letters } }
+    requires named { unnamed ≡ record { ledger = L.name; parts = L.parts; table = L.table; letters = L.letters; rights = L.rights } }
 {
-    let Ok(desk) = roster.desk::<L>(alloc, unnamed) else {
+    let Ok((desk, authority)) = roster.desk::<L>(alloc, unnamed) else {
         return false;
     };
-    are_all_told(rt, alloc, &desk, roster)
+    are_all_told(rt, alloc, &desk, &authority, roster)
 }
 
 #[test]

@@ -4,4 +4,4 @@ abbrev pub ghosts-at_a_desk-L-Ledger : goal.ghosts-at_a_desk-L-Ledger
 ghosts-at_a_desk-L-Ledger g a = record { name = a.unnamed.ledger; parts = a.unnamed.parts }
 
 abbrev pub ghosts-at_a_desk-L-Naming : goal.ghosts-at_a_desk-L-Naming
-ghosts-at_a_desk-L-Naming g a = record { table = a.unnamed.table; letters = a.unnamed.letters; roster = a.roster.items }
+ghosts-at_a_desk-L-Naming g a = record { table = a.unnamed.table; letters = a.unnamed.letters; rights = a.unnamed.rights; roster = a.roster.items }

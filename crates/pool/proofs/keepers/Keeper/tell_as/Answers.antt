@@ -60,5 +60,5 @@ invariant_of-self g c =
       i.2,
       keeper_itself c.split_seat-seat.new.seat.me _ _ last,
       subst (λ (m : Me ℕ Knows). AreNamed m.0.drawn m.0.all) (sym last) (named_push c.self.inside.seat.me.0.drawn c.self.inside.seat.me.0.all g.T.Telling.item i.4 (omega (arith, told.1, own))),
-      subst (λ (l : List Item). IsLegal g.J.Naming.roster l) (sym (ap (λ m. m.0.all) last ∙ (λ k. (c.self.view_is ∙ c.front-other.ensures.same) k ++ c.requires.item k ∷ []))) c.requires.legal,
+      subst (λ (l : List Item). IsLegal g.J.Naming.roster l) (sym (ap (λ m. m.0.all) last ∙ (λ k. (c.self.view_is ∙ c.fresh-other.ensures.same) k ++ c.requires.item k ∷ []))) c.requires.legal,
     )

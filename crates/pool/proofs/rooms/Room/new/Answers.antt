@@ -5,8 +5,8 @@ use Rattle.pool.specs.Histories.{Reaches}
 use Rattle.pool.proofs.Reaching.{new_reaches}
 use Rattle.pool.proofs.rooms.Room.new.Goals as goal
 
-pub invariant_of-result : goal.invariant_of-result
-invariant_of-result g c = (
+pub invariant_of-room : goal.invariant_of-room
+invariant_of-room g c = (
   search rules,
   search rules,
   search rules,

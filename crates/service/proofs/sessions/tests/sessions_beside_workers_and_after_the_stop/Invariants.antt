@@ -6,4 +6,4 @@ abbrev pub ghosts-are_told_at-L-Ledger : goal.ghosts-are_told_at-L-Ledger
 ghosts-are_told_at-L-Ledger g a = record { name = a.unnamed.ledger; parts = a.unnamed.parts }
 
 abbrev pub ghosts-are_told_at-L-Naming : goal.ghosts-are_told_at-L-Naming
-ghosts-are_told_at-L-Naming g a = record { table = a.unnamed.table; letters = a.unnamed.letters; roster = map tenant_of a.roster.now }
+ghosts-are_told_at-L-Naming g a = record { table = a.unnamed.table; letters = a.unnamed.letters; rights = a.unnamed.rights; roster = map tenant_of a.roster.now }

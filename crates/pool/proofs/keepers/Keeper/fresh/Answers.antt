@@ -1,6 +1,6 @@
 use Rattle.std.proofs.Common.{◌∙◌, ap, sym, arith}
 use Rattle.pool.proofs.Seating.{draws_as}
-use Rattle.pool.proofs.keepers.Keeper.front.Goals as goal
+use Rattle.pool.proofs.keepers.Keeper.fresh.Goals as goal
 
 pub split_seat-seat-requires : goal.split_seat-seat-requires
 split_seat-seat-requires g c =
