@@ -67,7 +67,7 @@ PLACES = [
     ("service/scripts.rt", "run_lines", "ScriptFault::Memory", "let Ok(mut hall) = take_roster(alloc, lines, writer)?.hall(alloc) else", TOLD),
     ("service/serving.rt", "serve", "ServeFault::Memory", "let Ok(mut line) = ReplyBuffer::make(alloc) else", TOLD),
     ("service/serving.rt", "serve", "ServeFault::Memory", "let Ok(unnamed) = Unnamed::make(alloc) else", TOLD),
-    ("service/serving.rt", "serve_with", "ServeFault::Memory", "let Ok(desk) = roster.desk::<L>(line.alloc(), unnamed) else", TOLD),
+    ("service/serving.rt", "serve_with", "ServeFault::Memory", "let Ok((desk, authority)) = roster.desk::<L>(line.alloc(), unnamed) else", TOLD),
     ("service/serving.rt", "worked_well", "ServeFault::Memory", "match worked: Err(_fault)", TOLD),
     ("service/sessions.rt", "answer_session", "SessionEnd::Memory", "let Ok(mut reply) = ReplyBuffer::make(alloc) else", TOLD),
     ("service/sessions.rt", "answer_session", "SessionEnd::Memory", "let Ok(mut lines) = LineReader::make(alloc, reader) else", TOLD),

@@ -7,12 +7,13 @@ A function is proved by its own contract and by those of what it calls, so wheth
 what stands in other bodies. So the edits of a crate are applied to one copy of it, all that turn different functions at
 once, and one process proves the functions that they turn, and those that they call. Each of these has to be refused by a goal
 of its own: that something which it calls isn't proved is no refusal, nor is a name that a proof lacks. What isn't refused so is
-tried again alone, and so is at once what changes a line outside functions. A crate's first such round keeps what it proves, and
-each later one begins with that, so it proves again what was turned and no more. Rounds take the processors that are free: one of
-several edits more than one, where no other waits, and a first one two at least, where there are four. An edit that turns no
-function's body, but a definition or a type, has a line `# at FUNCTION`, and has to be refused there. One for which the prover
-looks for minutes has a line `# long`, and is tried alone, beside its crate's first round. The other `#` line is for docs/EDITS.md
-(checks/index.py). `rt ci` and `rt must-fail NAME` try each edit in a process of its own, which loads the crates below each time.
+tried once more, in a round that hasn't begun or in one with others of its kind, and then alone; and alone is tried at once what
+changes a line outside functions. A crate's first such round keeps what it proves, and each later one begins with that, so it
+proves again what was turned and no more. Rounds take the processors that are free: one of several edits more than one, where no
+other waits, and a first one two at least, where there are four. An edit that turns no function's body, but a definition or a
+type, has a line `# at FUNCTION`, and has to be refused there. One for which the prover looks for minutes has a line `# long`, and
+is tried alone, beside its crate's first round. The other `#` line is for docs/EDITS.md (checks/index.py). `rt ci` and
+`rt must-fail NAME` try each edit in a process of its own, which loads the crates below each time.
 
 The crates below are taken from FOLDER/crates/NAME/out/rlib, as `rt ci` leaves them while it goes on there and writes what it says
 to FOLDER/said, which ends with a line `ended`; a crate's edits begin once those below it are proved. Without the option these are
@@ -65,11 +66,12 @@ class Edit:
     functions: set
     is_alone: bool = False
     is_long: bool = False
+    tries: int = 0  # beside others, by which it wasn't refused
 
     def fits_beside(self, other):
-        """Whether each of the two would be refused as it is alone."""
-        is_apart = not self.functions & other.functions and not self.is_alone and not other.is_alone
-        return is_apart and not any(mine.meets(its) for mine in self.hunks for its in other.hunks)
+        """Whether each of the two would be refused as it is alone, as far as can be told without a try."""
+        may_share = not any(it.is_alone or it.tries > 1 for it in (self, other))
+        return may_share and not self.functions & other.functions and not any(mine.meets(its) for mine in self.hunks for its in other.hunks)
 
 
 class BadEdit(Exception):
@@ -231,12 +233,21 @@ class Round:
         return max(free // ready, lanes // 2 if self.first is None else 1, 1)
 
     def tell(self, toolchain, jobs):
-        """Tries the round. Returns for each edit whether it is refused, and a text; and rounds of one for those that are tried
-        again, alone."""
+        """Tries the round. Returns for each edit whether it is refused, and a text; and those that are to be tried once more."""
         told = list(zip(self.edits, self.tried(toolchain, jobs)))
         again = [edit for edit, (is_refused, _) in told if not is_refused and len(self.edits) > 1]
-        ended = [self.named(edit, *verdict) for edit, verdict in told if edit not in again]
-        return ended, [Round(self.crate, [edit], self.kept, self.first or self) for edit in again]
+        return [self.named(edit, *verdict) for edit, verdict in told if edit not in again], again
+
+    def share_out(self, again, waiting):
+        """Has these edits of the round tried once more: each in a round that waits and in which it fits, or in a new one."""
+        for edit in again:
+            edit.tries += 1
+            later = (it for it in waiting if it.crate is self.crate and it.first is not None)
+            fitting = next((it for it in later if all(edit.fits_beside(other) for other in it.edits)), None)
+            if fitting:
+                fitting.edits.append(edit)
+            else:
+                waiting.append(Round(self.crate, [edit], self.kept, self.first or self))
 
     def tried(self, toolchain, jobs):
         """What comes of its edits: the first round keeps what it proves, and a later one begins with a copy, so that this stays."""
@@ -282,9 +293,12 @@ def try_all(rounds, toolchain, lanes, look):
                 yield from it.untried()
             time.sleep(0.5)
             for one in [it for it in running if it.done()]:
-                running.pop(one)[0].has_ended = True
+                tried, _ = running.pop(one)
+                tried.has_ended = True
                 ended, again = one.result()
-                waiting += again
+                tried.share_out(again, waiting)
+                if all(it.kept != tried.kept for it in [*waiting, *(other for other, _ in running.values())]):
+                    pool.submit(shutil.rmtree, tried.kept)
                 yield from ended
 
 
