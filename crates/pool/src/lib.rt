@@ -11,8 +11,6 @@
 #![tactic(auto)]
 
 mod bells;
-#[cfg(test)]
-mod desk_tests;
 mod desks;
 mod faults;
 mod histories;
@@ -23,10 +21,6 @@ mod rights;
 mod rooms;
 mod seats;
 mod tallies;
-#[cfg(test)]
-mod tests;
-#[cfg(test)]
-mod tests_below;
 mod turns;
 mod verdicts;
 mod visits;

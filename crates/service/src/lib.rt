@@ -26,6 +26,8 @@ mod scripts;
 mod serving;
 mod sessions;
 mod speakers;
+#[cfg(test)]
+mod tests_below;
 mod words;
 mod writing;
 
