@@ -71,7 +71,7 @@ impl Block {
         ensures some { 0 < length self.now }
     {
         match self.rows().first() {
-            Some(first) => credential.compare(first.credential()).is_lt(),
+            Some(first) => first.is_above(credential),
             None => false,
         }
     }
@@ -93,7 +93,7 @@ impl Block {
         match place_to_put(self.rows(), credential) {
             Ok(_) => Ok(false),
             Err(place) => {
-                let row = Row::of(*self.rows.allocator(), credential)?;
+                let row = self.rows()[0].beside(*self.rows.allocator(), credential)?;
                 insert_row(&mut self.rows, place, row)?;
                 Ok(true)
             }

@@ -1,22 +1,37 @@
-ghost use Rattle.std.specs.Prelude.{◌≡◌, ℕ, ◌<◌, ◌≤◌, length, IfOk, OnOk, OnErr};
+ghost use Rattle.std.specs.Prelude.{◌≡◌, ℕ, ◌<◌, ◌≤◌, length, IsTrue, IfOk};
+ghost use Rattle.std.specs.Arc.{arc_value};
+ghost use Rattle.std.specs.Ordering.{is_lt};
 ghost use Rattle.std.specs.Prelude.{get_or};
 ghost use Rattle.std.specs.declared.cmp.Ordering.TheVariants.{Less};
 ghost use Rattle.credential_text.specs.declared.credentials.Credential.{Credential as AnyCredential};
 ghost use Rattle.std.specs.Vec.{vec_capacity};
 ghost use Rattle.std.specs.BTreeSet.{insert_key};
 ghost use Rattle.std.specs.List.Sorted.{IsStrictlySortedBy};
+ghost use Rattle.names.specs.Role.{role_order};
+ghost use Rattle.credential_text.specs.Expr.{keeps_issuer};
 ghost use Rattle.credential_text.specs.Credential.{credential_order};
 ghost use Rattle.vaults.specs.InOrder.{without, IsPlace};
 
-use credential_text::Credential;
+use credential_text::{Credential, Expr};
+use names::{Entity, Role, RoleName};
 use std::alloc::{AllocError, Global};
+use std::cmp::Ordering;
 use std::marker::Model;
 use std::sync::Arc;
+
+/// A credential as a row holds it: the name of its owner may be shared with other rows.
+#[derive(Drop)]
+struct HeldRow {
+    owner: Arc<Entity>,
+    name: RoleName,
+    body: Expr,
+    ghost issuer_kept: { IsTrue (keeps_issuer (record { owner = arc_value owner; name = name }) body) },
+}
 
 /// A row of a vault: a credential that moves as one address, and that the versions which have it share. Seen as the credential.
 #[derive(Drop)]
 pub struct Row {
-    held: Arc<Credential>,
+    held: Arc<HeldRow>,
 }
 
 impl Model for Row {
@@ -25,7 +40,11 @@ impl Model for Row {
 
     ghost Value = { Credential };
 
-    ghost view = { λ r. arc_value r.held };
+    ghost view = { λ r. record {
+      head = record { owner = arc_value (arc_value r.held).owner; name = (arc_value r.held).name };
+      body = (arc_value r.held).body;
+      issuer_kept = (arc_value r.held).issuer_kept;
+    } };
 }
 
 impl Row {
@@ -33,17 +52,88 @@ impl Row {
     pub(crate) fn of(alloc: Global, credential: &Credential) -> Result<Row, AllocError>
         ensures { IfOk result (λ r. r ≡ credential.now) }
     {
-        let copy = credential.try_clone()?;
-        let held = Arc::new(alloc, copy)?;
-        Ok(Row { held })
+        let owner = Arc::new(alloc, credential.head.owner)?;
+        row_of(alloc, owner, credential)
     }
 
-    /// The credential.
-    pub fn credential(&self) -> &Credential
-        ensures { result.now ≡ self.now }
+    /// A row with a copy of the credential, which shares this row's name of the owner where that is the same.
+    pub(crate) fn beside(&self, alloc: Global, credential: &Credential) -> Result<Row, AllocError>
+        ensures { IfOk result (λ r. r ≡ credential.now) }
     {
-        &self.held
+        let owner = self.share_owner(alloc, &credential.head.owner)?;
+        row_of(alloc, owner, credential)
     }
+
+    /// The owner's name, to be held by another row: this row's, where it is the same.
+    fn share_owner(&self, alloc: Global, owner: &Entity) -> Result<Arc<Entity>, AllocError>
+        ensures { IfOk result (λ held. arc_value held ≡ owner.now) }
+    {
+        if *self.owner() == *owner {
+            Arc::try_clone(&self.held.owner)
+        } else {
+            Ok(Arc::new(alloc, *owner)?)
+        }
+    }
+
+    /// Whose role the credential's head is.
+    pub fn owner(&self) -> &Entity
+        ensures { result.now ≡ self.now.head.owner }
+    {
+        &self.held.owner
+    }
+
+    /// The name of the role in the credential's head.
+    pub fn name(&self) -> &RoleName
+        ensures { result.now ≡ self.now.head.name }
+    {
+        &self.held.name
+    }
+
+    /// The credential's body.
+    pub fn body(&self) -> &Expr
+        ensures { result.now ≡ self.now.body }
+    {
+        &self.held.body
+    }
+
+    /// How the credential's head stands to the role, in the order of roles.
+    pub fn compare_head(&self, role: &Role) -> Ordering
+        ensures { result ≡ role_order self.now.head role.now }
+    {
+        self.owner()
+            .compare(&role.owner)
+            .then_with(|| self.name().compare(&role.name))
+    }
+
+    /// How the row stands to the credential, in the order of credentials.
+    pub fn compare(&self, credential: &Credential) -> Ordering
+        ensures { result ≡ credential_order self.now credential.now }
+    {
+        self.compare_head(&credential.head)
+            .then_with(|| self.body().compare(&credential.body))
+    }
+
+    /// Whether the row is above the credential.
+    pub(crate) fn is_above(&self, credential: &Credential) -> bool
+        ensures { result ≡ is_lt (credential_order credential.now self.now) }
+    {
+        self.compare(credential).is_gt()
+    }
+}
+
+/// A row with a copy of the credential, whose owner's name this is.
+fn row_of(alloc: Global, owner: Arc<Entity>, credential: &Credential) -> Result<Row, AllocError>
+    requires { arc_value owner ≡ credential.now.head.owner }
+    ensures { IfOk result (λ r. r ≡ credential.now) }
+{
+    let body = credential.body.try_clone()?;
+    let row = HeldRow {
+        owner,
+        name: credential.head.name,
+        body,
+    };
+    let held = Arc::new(alloc, row)?;
+    Ok(Row { held })
 }
 
 /// The row once more: the credential isn't copied.
@@ -61,7 +151,7 @@ pub fn place_of(rows: &[Row], credential: &Credential) -> Result<usize, usize>
     requires { IsStrictlySortedBy credential_order rows.now }
     ensures { IsPlace credential_order rows.now credential.now result }
 {
-    rows.binary_search_by(|row| row.credential().compare(credential))
+    rows.binary_search_by(|row| row.compare(credential))
 }
 
 /// The same among some rows for one that is to be put there. It is held against the last row first, since what is put in
@@ -72,7 +162,7 @@ pub fn place_to_put(rows: &[Row], credential: &Credential) -> Result<usize, usiz
     ensures { IsPlace credential_order rows.now credential.now result }
 {
     let last = rows.len() - 1;
-    if rows[last].credential().compare(credential).is_lt() {
+    if rows[last].compare(credential).is_lt() {
         return Err(rows.len());
     }
     place_of(rows, credential)
