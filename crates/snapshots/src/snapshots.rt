@@ -13,12 +13,11 @@ ghost use Rattle.snapshots.specs.Snapshot.{IsOrdered};
 use crate::holdings::Holding;
 use crate::spans::{Cut, Span, both, is_rows_until, rows_between};
 use crate::steps::Steps;
-use credential_text::Credential;
 use names::{Entity, Role};
 use std::alloc::{AllocError, Global};
 use std::marker::Model;
 use std::sync::ledger::Ledger;
-use vaults::{Book, Rows, VaultFault};
+use vaults::{Book, Row, Rows, VaultFault};
 
 /// What a tenant could read at one time: its view, over versions that nobody can change.
 pub struct Snapshot {
@@ -103,7 +102,7 @@ impl Snapshot {
     }
 
     /// The row at the place in the span.
-    pub fn row(&self, span: Span, i: u64) -> &Credential
+    pub fn row(&self, span: Span, i: u64) -> &Row
         requires found { (role : Role) × (span ≡ span_of self.now.vaults role) }
         requires place { span.lo + i < span.hi }
         ensures { (role : Role) → span ≡ span_of self.now.vaults role → slice_get (role_rows self.now.vaults role) i ≡ Some result.now }
@@ -120,11 +119,11 @@ fn hold(vaults: &mut Vec<Holding>, holding: Holding) -> Result<(), AllocError>
     Ok(())
 }
 
-fn row_at<'a>(rows: &Rows<'a>, place: u64) -> &'a Credential
+fn row_at<'a>(rows: &Rows<'a>, place: u64) -> &'a Row
     requires { place < length (rows_in rows.now) }
     ensures { slice_get (rows_in rows.now) place ≡ Some result.now }
 {
-    rows.row(place as usize).credential()
+    rows.row(place as usize)
 }
 
 /// How many vaults stand before the owner's.

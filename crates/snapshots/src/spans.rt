@@ -46,14 +46,14 @@ impl Cut {
     pub(crate) fn passes(self, role: &Role, row: &Row) -> bool
         ensures { result ≡ is_cut self role.now row.now }
     {
-        self.is_behind(row.credential().head.compare(role))
+        self.is_behind(row.compare_head(role))
     }
 
     /// Whether the row, of the role's owner too, stands before the cut: by the names of their roles alone.
     fn passes_by_name(self, name: &RoleName, row: &Row) -> bool
         ensures { result ≡ is_cut_by_name self name.now row.now }
     {
-        self.is_behind(row.credential().head.name.compare(name))
+        self.is_behind(row.name().compare(name))
     }
 }
 
