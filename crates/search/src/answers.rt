@@ -209,14 +209,14 @@ fn ask_rows(found: &mut Findings, snapshot: &Snapshot, span: Span) -> Result<(),
     if count > FEW_ROWS
         && found
             .graph()
-            .node(&snapshot.row(span, count - 1).body)
+            .node(snapshot.row(span, count - 1).body())
             .is_none()
     {
         found.reserve(count)?;
     }
     for place in 0..count {
         let row = snapshot.row(span, place);
-        ask(found, &row.body, Port::Body)?;
+        ask(found, row.body(), Port::Body)?;
     }
     Ok(())
 }

@@ -17,7 +17,7 @@ pub loop-place-preserved : goal.loop-place-preserved
 loop-place-preserved c = λ role is.
     let rows = role_rows c.args.snapshot.now.vaults role in
     let at = c.row-row.ensures role is in
-    asks_next (row_asks rows) c.loop-place.place c.args.found.now c.loop-place.found c.ask.new.found c.row-row.result.now.body port.Body (c.loop-place.invariant role is) (row_ask_at rows c.loop-place.place c.row-row.result.now at) c.in_ok-ask.ensures
+    asks_next (row_asks rows) c.loop-place.place c.args.found.now c.loop-place.found c.ask.new.found c.row-row.result.now.body port.Body (c.loop-place.invariant role is) (row_ask_at rows c.loop-place.place c.row-row.result.now at) (rw c.body-in-loop-place.ensures at c.in_ok-ask.ensures)
 
 pub returns : goal.returns
 returns c = λ role is.
