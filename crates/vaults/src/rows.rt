@@ -1,4 +1,4 @@
-ghost use Rattle.std.specs.Prelude.{◌≡◌, ℕ, ◌<◌, ◌≤◌, length, IsTrue, IfOk};
+ghost use Rattle.std.specs.Prelude.{◌≡◌, ℕ, ◌<◌, ◌≤◌, length, IsTrue, IfOk, OnErr};
 ghost use Rattle.std.specs.Arc.{arc_value};
 ghost use Rattle.std.specs.Ordering.{is_lt};
 ghost use Rattle.std.specs.Prelude.{get_or};
@@ -8,7 +8,7 @@ ghost use Rattle.std.specs.Vec.{vec_capacity};
 ghost use Rattle.std.specs.BTreeSet.{insert_key};
 ghost use Rattle.std.specs.List.Sorted.{IsStrictlySortedBy};
 ghost use Rattle.names.specs.Role.{role_order};
-ghost use Rattle.credential_text.specs.Expr.{keeps_issuer};
+ghost use Rattle.credential_text.specs.Expr.{IsIntersection, keeps_issuer};
 ghost use Rattle.credential_text.specs.Credential.{credential_order};
 ghost use Rattle.vaults.specs.InOrder.{without, IsPlace};
 
@@ -94,6 +94,19 @@ impl Row {
         ensures { result.now ≡ self.now.body }
     {
         &self.held.body
+    }
+
+    /// A copy of the credential. Only the copy of an intersection takes memory.
+    pub fn to_credential(&self) -> Result<Credential, AllocError>
+        ensures same { IfOk result (λ c. c ≡ self.now) }
+        ensures growth { OnErr result (IsIntersection self.now.body) }
+    {
+        let head = Role {
+            owner: *self.owner(),
+            name: *self.name(),
+        };
+        let body = self.body().try_clone()?;
+        Ok(Credential { head, body })
     }
 
     /// How the credential's head stands to the role, in the order of roles.
