@@ -147,7 +147,7 @@ fn write_vault(buffer: &mut ReplyBuffer, who: &Speaker, rows: &Rows<'_>) -> Resu
     fill_counted(buffer, who, b"vault ", rows.len() as u64);
     for place in 0..rows.len() {
         buffer.extend_front(who)?;
-        buffer.extend_by(rows.row(place).credential())?;
+        buffer.extend_by(rows.row(place))?;
         buffer.extend(b"\n")?;
     }
     Ok(())

@@ -3,9 +3,10 @@ ghost use Rattle.std.specs.Prelude.{◌≡◌, ◌≤◌, ◌+◌, ◌++◌, [],
 ghost use Rattle.{service.specs.Reply.front_of, credential_text.specs.Spelling.canonical};
 
 use crate::speakers::Speaker;
-use credential_text::{Credential, write_credential};
+use credential_text::write_expr;
 use std::alloc::{AllocError, Global};
 use std::marker::Model;
+use vaults::Row;
 
 /// What a short reply needs: a name of 64 bytes, a colon and a space, the reply, and a newline.
 const SHORT_REPLY: usize = 128;
@@ -98,11 +99,15 @@ impl ReplyBuffer {
         self.extend(colon)
     }
 
-    /// Appends the canonical spelling of a credential.
-    pub(crate) fn extend_by(&mut self, credential: &Credential) -> Result<(), AllocError>
-        ensures { OnOk result (self.new ≡ self.old ++ canonical credential.now) }
+    /// Appends the canonical spelling of a row.
+    pub(crate) fn extend_by(&mut self, row: &Row) -> Result<(), AllocError>
+        ensures { OnOk result (self.new ≡ self.old ++ canonical row.now) }
     {
-        write_credential(credential, &mut self.bytes)
+        self.extend(row.owner().bytes())?;
+        self.extend(b".")?;
+        self.extend(row.name().bytes())?;
+        self.extend(b" <- ")?;
+        write_expr(row.body(), &mut self.bytes)
     }
 }
 

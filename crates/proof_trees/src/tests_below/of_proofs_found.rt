@@ -155,7 +155,7 @@ fn link_all(alloc: Global, book: &mut Book) -> Result<(), Fail> {
 /// Appends copies of the credentials.
 fn copy_rows(rows: &Rows<'_>, copy: &mut Vec<Credential>) -> Result<(), AllocError> {
     for place in 0..rows.len() {
-        copy.push(rows.row(place).credential().try_clone()?)?;
+        copy.push(rows.row(place).to_credential()?)?;
     }
     Ok(())
 }

@@ -3,7 +3,7 @@ use super::of_credential_text::longest_text;
 use credential_text::{CredFault, Credential, read_credential};
 use names::Entity;
 use std::alloc::{AllocError, Global};
-use vaults::{Book, Change, Entries, Entry, Rows, Seen, VaultFault, Version};
+use vaults::{Book, Change, Entries, Entry, Row, Rows, Seen, VaultFault, Version};
 
 /// A change, by the spelling of its credential or the name of its reader.
 #[derive(Clone, Copy)]
@@ -125,10 +125,15 @@ fn reads_back(alloc: Global, book: &Book, rows: &[(&[u8], Word)]) -> Result<bool
     reads_all(alloc, &mut entries, rows)
 }
 
+/// Whether the text spells this row.
+fn is_row(alloc: Global, row: &Row, text: &[u8]) -> Result<bool, CredFault> {
+    Ok(row.compare(&read_credential(alloc, text)?).is_eq())
+}
+
 /// Whether these are the rows, in this order.
 fn are_rows(alloc: Global, rows: &Rows<'_>, texts: &[&[u8]]) -> Result<bool, CredFault> {
     for (place, text) in texts.iter().enumerate() {
-        if place >= rows.len() || !is_spelled(alloc, rows.row(place).credential(), text)? {
+        if place >= rows.len() || !is_row(alloc, rows.row(place), text)? {
             return Ok(false);
         }
     }
@@ -194,9 +199,9 @@ fn accepts_withdrawals(alloc: Global, book: &mut Book, who: Entity) -> Result<bo
 /// Whether the rows are `A.r <- E000` and each second one on to the 899th.
 fn are_even(alloc: Global, rows: &Rows<'_>) -> Result<bool, CredFault> {
     for place in 0..rows.len() {
-        if !is_spelled(
+        if !is_row(
             alloc,
-            rows.row(place).credential(),
+            rows.row(place),
             &numbered((place as u64).wrapping_mul(2)),
         )? {
             return Ok(false);

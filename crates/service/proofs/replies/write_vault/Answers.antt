@@ -11,4 +11,4 @@ loop-place-preserved c =
     let front = front_of c.args.who.now in
     let rows = rows_in c.args.rows.now in
     credential-next front (line_after front (codes "vault " ++ decimal (length rows))) c.loop-place.buffer c.extend_front.new.self c.extend_by.new.self c.extend.new.self rows
-    c.loop-place.place c.row.result.now c.row.ensures c.loop-place.invariant c.in_ok-extend_front.ensures (rw c.credential.ensures at c.in_ok-extend_by.ensures) c.in_ok-extend.ensures
+    c.loop-place.place c.row.result.now c.row.ensures c.loop-place.invariant c.in_ok-extend_front.ensures c.in_ok-extend_by.ensures c.in_ok-extend.ensures

@@ -1,11 +1,11 @@
 //! Events as a table writes them, and what a table wants each to be answered.
 use crate::tests_below::are_named;
-use credential_text::{CredFault, Credential, read_credential};
+use credential_text::{CredFault, read_credential};
 use hall::{Answer, Event, Fault, Hall, Proof, Query, Reply, Request, Step, Stepped, write_proof};
 use names::{Entity, Role};
 use search::{Hint, Need};
 use std::alloc::Global;
-use vaults::{Change, Rows as Held, Seen};
+use vaults::{Change, Row as HeldRow, Rows as Held, Seen};
 
 /// What a tenant asks of a hall, or what is done for its search; a step names the number of the search first.
 pub(super) enum Act {
@@ -134,17 +134,15 @@ fn is_role(role: &Role, text: &str) -> bool {
     }
 }
 
-/// Whether the text spells this credential.
-fn is_spelled(alloc: Global, credential: &Credential, text: &[u8]) -> Result<bool, CredFault> {
-    Ok(credential.compare(&read_credential(alloc, text)?).is_eq())
+/// Whether the text spells this row.
+fn is_spelled(alloc: Global, row: &HeldRow, text: &[u8]) -> Result<bool, CredFault> {
+    Ok(row.compare(&read_credential(alloc, text)?).is_eq())
 }
 
 /// Whether these are the credentials that the texts spell, in this order.
 fn are_spelled(alloc: Global, rows: &Held<'_>, wanted: &[&str]) -> Result<bool, CredFault> {
     for (place, text) in wanted.iter().enumerate() {
-        if place >= rows.len()
-            || !is_spelled(alloc, rows.row(place).credential(), text.as_bytes())?
-        {
+        if place >= rows.len() || !is_spelled(alloc, rows.row(place), text.as_bytes())? {
             return Ok(false);
         }
     }

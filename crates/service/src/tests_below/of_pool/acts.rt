@@ -170,7 +170,7 @@ fn rows_told(rows: &Rows<'_>, credential: &Credential) -> Told {
     if rows.len() == 0 {
         return Told::Rows(0, false);
     }
-    let first = rows.row(0).credential();
+    let first = rows.row(0);
     Told::Rows(rows.len(), first.compare(credential).is_eq())
 }
 
