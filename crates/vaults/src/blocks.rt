@@ -93,7 +93,8 @@ impl Block {
         match place_to_put(self.rows(), credential) {
             Ok(_) => Ok(false),
             Err(place) => {
-                let row = self.rows()[0].beside(*self.rows.allocator(), credential)?;
+                let neighbour = &self.rows()[place.saturating_sub(1)];
+                let row = neighbour.beside(*self.rows.allocator(), credential)?;
                 insert_row(&mut self.rows, place, row)?;
                 Ok(true)
             }

@@ -19,13 +19,28 @@ use std::cmp::Ordering;
 use std::marker::Model;
 use std::sync::Arc;
 
-/// A credential as a row holds it: the name of its owner may be shared with other rows.
+/// The role in the head of rows, whose owner's name the heads of other roles may share.
 #[derive(Drop)]
-struct HeldRow {
+struct Head {
     owner: Arc<Entity>,
     name: RoleName,
+}
+
+impl Model for Head {
+    ghost use Rattle.std.specs.Arc.{arc_value};
+    ghost use Rattle.names.specs.declared.roles.Role.{Role};
+
+    ghost Value = { Role };
+
+    ghost view = { λ h. record { owner = arc_value h.owner; name = h.name } };
+}
+
+/// A credential as a row holds it, whose head other rows of the role may share.
+#[derive(Drop)]
+struct HeldRow {
+    head: Arc<Head>,
     body: Expr,
-    ghost issuer_kept: { IsTrue (keeps_issuer (record { owner = arc_value owner; name = name }) body) },
+    ghost issuer_kept: { IsTrue (keeps_issuer (arc_value head) body) },
 }
 
 /// A row of a vault: a credential that moves as one address, and that the versions which have it share. Seen as the credential.
@@ -41,10 +56,39 @@ impl Model for Row {
     ghost Value = { Credential };
 
     ghost view = { λ r. record {
-      head = record { owner = arc_value (arc_value r.held).owner; name = (arc_value r.held).name };
+      head = arc_value (arc_value r.held).head;
       body = (arc_value r.held).body;
       issuer_kept = (arc_value r.held).issuer_kept;
     } };
+}
+
+impl Head {
+    /// This role, to be held: the head that is there, where it is the same, or else one that shares its owner's name, where that
+    /// is the same.
+    fn beside(held: &Arc<Head>, alloc: Global, role: &Role) -> Result<Arc<Head>, AllocError>
+        ensures { IfOk result (λ head. arc_value head ≡ role.now) }
+    {
+        if held.name == role.name && *held.owner == role.owner {
+            return Arc::try_clone(held);
+        }
+        let owner = held.share_owner(alloc, &role.owner)?;
+        let head = Head {
+            owner,
+            name: role.name,
+        };
+        Ok(Arc::new(alloc, head)?)
+    }
+
+    /// This owner's name, to be held: the head's, where it is the same.
+    fn share_owner(&self, alloc: Global, owner: &Entity) -> Result<Arc<Entity>, AllocError>
+        ensures { IfOk result (λ held. arc_value held ≡ owner.now) }
+    {
+        if *self.owner == *owner {
+            Arc::try_clone(&self.owner)
+        } else {
+            Ok(Arc::new(alloc, *owner)?)
+        }
+    }
 }
 
 impl Row {
@@ -53,40 +97,34 @@ impl Row {
         ensures { IfOk result (λ r. r ≡ credential.now) }
     {
         let owner = Arc::new(alloc, credential.head.owner)?;
-        row_of(alloc, owner, credential)
+        let head = Head {
+            owner,
+            name: credential.head.name,
+        };
+        let head = Arc::new(alloc, head)?;
+        row_of(alloc, head, credential)
     }
 
-    /// A row with a copy of the credential, which shares this row's name of the owner where that is the same.
+    /// A row with a copy of the credential. It shares this row's head where that is the same, or else its owner's name.
     pub(crate) fn beside(&self, alloc: Global, credential: &Credential) -> Result<Row, AllocError>
         ensures { IfOk result (λ r. r ≡ credential.now) }
     {
-        let owner = self.share_owner(alloc, &credential.head.owner)?;
-        row_of(alloc, owner, credential)
-    }
-
-    /// The owner's name, to be held by another row: this row's, where it is the same.
-    fn share_owner(&self, alloc: Global, owner: &Entity) -> Result<Arc<Entity>, AllocError>
-        ensures { IfOk result (λ held. arc_value held ≡ owner.now) }
-    {
-        if *self.owner() == *owner {
-            Arc::try_clone(&self.held.owner)
-        } else {
-            Ok(Arc::new(alloc, *owner)?)
-        }
+        let head = Head::beside(&self.held.head, alloc, &credential.head)?;
+        row_of(alloc, head, credential)
     }
 
     /// Whose role the credential's head is.
     pub fn owner(&self) -> &Entity
         ensures { result.now ≡ self.now.head.owner }
     {
-        &self.held.owner
+        &self.held.head.owner
     }
 
     /// The name of the role in the credential's head.
     pub fn name(&self) -> &RoleName
         ensures { result.now ≡ self.now.head.name }
     {
-        &self.held.name
+        &self.held.head.name
     }
 
     /// The credential's body.
@@ -134,18 +172,13 @@ impl Row {
     }
 }
 
-/// A row with a copy of the credential, whose owner's name this is.
-fn row_of(alloc: Global, owner: Arc<Entity>, credential: &Credential) -> Result<Row, AllocError>
-    requires { arc_value owner ≡ credential.now.head.owner }
+/// A row with a copy of the credential, whose head this is.
+fn row_of(alloc: Global, head: Arc<Head>, credential: &Credential) -> Result<Row, AllocError>
+    requires { arc_value head ≡ credential.now.head }
     ensures { IfOk result (λ r. r ≡ credential.now) }
 {
     let body = credential.body.try_clone()?;
-    let row = HeldRow {
-        owner,
-        name: credential.head.name,
-        body,
-    };
-    let held = Arc::new(alloc, row)?;
+    let held = Arc::new(alloc, HeldRow { head, body })?;
     Ok(Row { held })
 }
 
