@@ -148,7 +148,7 @@ CALLS = [
     ("snapshots/spans.rt", "passes_below", "== passes row"),
     ("snapshots/spans.rt", "fails_at", "== len passes row"),
     ("snapshots/spans.rt", "both", ""),
-    ("snapshots/spans.rt", "Cut::passes", "is_behind credential compare"),
+    ("snapshots/spans.rt", "Cut::passes", "is_behind compare_head"),
     ("snapshots/spans.rt", "Cut::is_behind", "is_lt is_le"),
     ("snapshots/steps.rt", "Steps::tick", "add"),
     ("snapshots/steps.rt", "Steps::passes", "tick passes"),
