@@ -2,3 +2,4 @@ pub mod Graph
 pub mod Numbers
 pub mod NodeLists
 pub mod Stored
+pub mod KeptExpr

@@ -1,6 +1,7 @@
 ghost use Rattle.std.specs.Prelude.{◌≡◌, ◌<◌, Some, IfOk, IfSome, OnOk, OnErr, MatchOption, Contains, length, slice_get};
 ghost use Rattle.credential_text.specs.declared.exprs.Expr.TheVariants as exprs;
 
+use crate::kept_exprs::NodeExpr;
 use crate::listeners::{KeptListening, Port, keep_port, kept_port, port_name, port_number};
 use crate::nodes::Nodes;
 use crate::solutions::{Reason, reason_name, reason_number};
@@ -44,6 +45,7 @@ impl Graph {
     ghost use Rattle.cred_graph.specs.Graph.{empty_graph, IsNode, Listens, IsSolution, listeners_of, members_of, before, Fits};
     ghost use Rattle.cred_graph.specs.Graph.{IsGraph, NodeGiven, ListenerGiven, SolutionGiven};
     ghost use Rattle.cred_graph.specs.declared.listeners.Listening.{Listening};
+    ghost use Rattle.cred_graph.specs.KeptExpr.{expr_lent};
     ghost use Rattle.cred_graph.specs.Numbers.{IsEntity, IsPort, IsNamed, IsReason, entity_at, port_at, reason_at};
 
     /// The graph without a node.
@@ -115,9 +117,9 @@ impl Graph {
     }
 
     /// The expression of the node.
-    pub fn expr(&self, n: u64) -> &Expr
+    pub fn expr(&self, n: u64) -> NodeExpr<'_>
         requires { n < length self.now.nodes }
-        ensures node { IsNode self.now n result.now }
+        ensures node { IsNode self.now n (expr_lent result) }
         ensures graph { IsGraph self.now }
     {
         self.nodes.expr(n)

@@ -8,6 +8,7 @@
 #![tactic(auto)]
 
 mod graphs;
+mod kept_exprs;
 mod listeners;
 mod node_lists;
 mod nodes;
@@ -17,5 +18,6 @@ mod table_space;
 mod tables;
 
 pub use graphs::Graph;
+pub use kept_exprs::NodeExpr;
 pub use listeners::{Listening, Port};
 pub use solutions::{Reason, Solution};

@@ -3,6 +3,7 @@ ghost use Rattle.credential_text.specs.declared.exprs.Expr.{Expr};
 ghost use Rattle.credential_text.specs.declared.exprs.Expr.TheVariants as exprs;
 ghost use Rattle.credential_text.specs.Expr.{HasPartsInRange};
 
+use crate::kept_exprs::{KeptExpr, NodeExpr};
 use crate::table_space::{kept_room, kept_when_empty};
 use credential_text::Expr;
 use indexmap::IndexSet;
@@ -16,7 +17,7 @@ const MOST: usize = 1 << 32;
 
 /// The expressions of the nodes, each once and by its node's number, which has 32 bits.
 pub struct Nodes {
-    exprs: IndexSet<Expr>,
+    exprs: IndexSet<KeptExpr>,
 }
 
 impl Model for Nodes {
@@ -39,6 +40,7 @@ impl Drop for Nodes {
 
 impl Nodes {
     ghost use Rattle.cred_graph.specs.Numbers.{IsEntity};
+    ghost use Rattle.cred_graph.specs.KeptExpr.{expr_lent};
 
     /// No node.
     pub fn new(alloc: Global) -> Self
@@ -102,16 +104,19 @@ impl Nodes {
         if number >= MOST {
             return Err(AllocError);
         }
-        let _is_new = self.exprs.insert(copy_of(expr)?)?;
+        let _is_new = self
+            .exprs
+            .insert(KeptExpr::keep(*self.exprs.allocator(), expr)?)?;
         Ok(number as u32)
     }
 
     /// The expression of the node.
-    pub fn expr(&self, n: u64) -> &Expr
+    #[inline(always)]
+    pub fn expr(&self, n: u64) -> NodeExpr<'_>
         requires { n < length self.now }
-        ensures { slice_get self.now n ≡ Some result.now }
+        ensures { slice_get self.now n ≡ Some (expr_lent result) }
     {
-        &self.exprs.as_slice()[n as usize]
+        self.exprs.as_slice()[n as usize].lend()
     }
 
     /// The number of the entity's node, if it has one.
@@ -127,19 +132,8 @@ impl Nodes {
         ensures { slice_get self.now k ≡ Some (exprs.Ent result) }
     {
         match self.expr(k as u64) {
-            Expr::Ent(who) => *who,
+            NodeExpr::Ent(who) => *who,
             _ => unreachable!(),
         }
     }
-}
-
-/// A copy of the expression.
-fn copy_of(expr: &Expr) -> Result<Expr, AllocError>
-    ensures same { IfOk result (λ copy. copy ≡ expr.now) }
-    ensures range { HasPartsInRange expr.now }
-{
-    if let Expr::Meet(parts) = expr {
-        let _parts = parts.as_slice();
-    }
-    expr.try_clone()
 }

@@ -99,7 +99,7 @@ impl Draft {
         ensures { OnOk result (IsStepped graph.now self.old self.new found.now rule) }
     {
         let PlacedSolution { place, solution } = *found;
-        let claim = graph.expr(solution.node).try_clone()?;
+        let claim = graph.expr(solution.node).to_expr()?;
         let _is_new = self.places.insert(place)?;
         self.proof.push(Step {
             who: solution.who,

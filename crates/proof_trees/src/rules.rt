@@ -10,7 +10,7 @@ use crate::drafts::Draft;
 use crate::placed_solutions::PlacedSolution;
 use crate::premises::{MOST_PREMISES, Premises};
 use crate::steps::Rule;
-use cred_graph::{Graph, Reason, Solution};
+use cred_graph::{Graph, NodeExpr, Reason, Solution};
 use credential_text::{Expr, Part};
 use names::{Entity, Role};
 use std::alloc::Global;
@@ -50,7 +50,7 @@ fn link_rule(
     ensures missing { IfErr result (IsMissingPremise graph.now draft.now
         (record { node = node; who = who.now; reason = reason.Via member.now })) }
 {
-    let Expr::Link(base, name) = graph.expr(node) else {
+    let NodeExpr::Link(base, name) = graph.expr(node) else {
         unreachable!()
     };
     let role = Role {
@@ -76,7 +76,7 @@ fn parts_rule(
     ensures missing { IfErr result (IsMissingPremise graph.now draft.now
         (record { node = node; who = who.now; reason = reason.Parts })) }
 {
-    let Expr::Meet(parts) = graph.expr(node) else {
+    let NodeExpr::Meet(parts) = graph.expr(node) else {
         unreachable!()
     };
     let parts = parts.as_slice();

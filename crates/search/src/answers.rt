@@ -20,7 +20,7 @@ ghost use Rattle.search.specs.Net.{Sent, IsLoad, load_at};
 
 use crate::findings::{Findings, NumberedMonitor};
 use crate::letters::{Held, Load};
-use cred_graph::{Graph, Port, Reason};
+use cred_graph::{Graph, NodeExpr, Port, Reason};
 use credential_text::{Expr, Part};
 use monitors::{KeyedMeet, ToldKeys};
 use names::Role;
@@ -125,7 +125,7 @@ fn given_role(graph: &Graph, node: u64, base: u32) -> Expr
         → result ≡ exprs.Rol (record { owner = entity_at graph.now.nodes base; name = name }) }
 {
     match graph.expr(node) {
-        Expr::Link(_base, name) => Expr::Rol(Role {
+        NodeExpr::Link(_base, name) => Expr::Rol(Role {
             owner: graph.entity(base),
             name: *name,
         }),
@@ -254,22 +254,22 @@ pub(crate) fn open(
         → Opens (own_rows snapshot.now.vaults e) found.old found.new node e) }
 {
     match found.graph().expr(node) {
-        Expr::Ent(_who) => {
+        NodeExpr::Ent(_who) => {
             let who = found.graph().short(node);
             solve(found, node, who, Reason::Leaf)
         }
-        Expr::Rol(role) => {
+        NodeExpr::Rol(role) => {
             let span = match looked_up {
                 Some(span) => *span,
                 None => snapshot.find(role),
             };
             ask_rows(found, snapshot, span)
         }
-        Expr::Link(base, _name) => {
+        NodeExpr::Link(base, _name) => {
             let base = *base;
             ask_base(found, base)
         }
-        Expr::Meet(parts) => {
+        NodeExpr::Meet(parts) => {
             let parts = parts.try_clone()?;
             ask_parts(found, parts.as_slice())
         }

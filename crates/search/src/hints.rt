@@ -2,24 +2,24 @@
 ghost use Rattle.std.specs.Prelude.{◌≡◌, ◌<◌, ◌↔◌, length, option_copied, IsTrue};
 ghost use Rattle.credential_text.specs.declared.exprs.Expr.{Expr};
 ghost use Rattle.cred_graph.specs.Graph.{IsNode};
+ghost use Rattle.cred_graph.specs.KeptExpr.{expr_lent};
 ghost use Rattle.search.specs.Finish.{rows_for, need_for, need_of, right_hint};
 
 use crate::letters::{Held, Load};
 use crate::queries::Hint;
-use cred_graph::Graph;
-use credential_text::Expr;
+use cred_graph::{Graph, NodeExpr};
 use names::Role;
 use snapshots::Snapshot;
 
 // The role that the expression is, if it is one.
-fn role_of(expr: &Expr) -> Option<&Role>
-    ensures { need_for (option_copied result) ≡ rows_for expr.now }
+fn role_of(expr: NodeExpr<'_>) -> Option<&Role>
+    ensures { need_for (option_copied result) ≡ rows_for (expr_lent expr) }
 {
     match expr {
-        Expr::Rol(role) => Some(role),
-        Expr::Ent(_entity) => None,
-        Expr::Link(_base, _name) => None,
-        Expr::Meet(_parts) => None,
+        NodeExpr::Rol(role) => Some(role),
+        NodeExpr::Ent(_entity) => None,
+        NodeExpr::Link(_base, _name) => None,
+        NodeExpr::Meet(_parts) => None,
     }
 }
 

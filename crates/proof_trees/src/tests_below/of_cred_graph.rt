@@ -330,7 +330,10 @@ fn has_reason(graph: &Graph, n: u64, who: &[u8], told: &Option<(u64, Reason<u64,
 /// Whether the part has the node of this number, which reads back as that node, or has none.
 fn reads_back(graph: &Graph, text: &[u8], told: Option<u64>) -> bool {
     match number_in(graph, text) {
-        Some(n) => Some(n) == told && graph.node(graph.expr(n)) == told,
+        Some(n) => match graph.expr(n).to_expr() {
+            Ok(expr) => Some(n) == told && graph.node(&expr) == told,
+            Err(_) => false,
+        },
         None => told.is_none(),
     }
 }

@@ -17,7 +17,7 @@ pushed : (c : In_ok-_is_new) → c.insert.new.self.keys ≡ c.self.inside.exprs.
 pushed c =
     let absent = rw (← c.self.view_is) at c.requires in
     c.in_ok-_is_new.ensures.keys
-    ∙ ap (insert_key expr.ghosts.eq c.self.inside.exprs.keys) c.in_ok-copy_of.ensures.same
+    ∙ ap (insert_key expr.ghosts.eq c.self.inside.exprs.keys) c.in_ok-keep.ensures.same
     ∙ insert_key-absent expr.ghosts.eq exprs_decided c.self.inside.exprs.keys c.args.expr.now absent
 
 pub invariant_of-self-2 : goal.invariant_of-self-2
@@ -30,7 +30,7 @@ pub returns-clause-added : goal.returns-clause-added
 returns-clause-added c = rw (← c.self.view_is) (pushed c)
 
 pub returns-clause-range : goal.returns-clause-range
-returns-clause-range c = c.in_ok-copy_of.ensures.range
+returns-clause-range c = c.in_ok-keep.ensures.range
 
 pub returns-then-number-ge-MOST : goal.returns-then-number-ge-MOST
 returns-then-number-ge-MOST c = record { number = tt; added = tt; range = tt; unchanged = refl }
@@ -38,8 +38,8 @@ returns-then-number-ge-MOST c = record { number = tt; added = tt; range = tt; un
 pub invariant_of-self : goal.invariant_of-self
 invariant_of-self c = c.self.invariant
 
-pub returns-in_err-copy_of : goal.returns-in_err-copy_of
-returns-in_err-copy_of c = record {
+pub returns-in_err-keep : goal.returns-in_err-keep
+returns-in_err-keep c = record {
   number = IfOk-from_err c.from_residual.result _ c.from_residual.ensures.0;
   added = IfOk-from_err c.from_residual.result _ c.from_residual.ensures.0;
   range = IfOk-from_err c.from_residual.result _ c.from_residual.ensures.0;

@@ -7,4 +7,4 @@ returns c =
     let expr = c.index-as_slice-n.result in
     let within = rw (← c.self.view_is, ← c.as_slice.ensures.keys) at c.requires in
     rw (← c.self.view_is, ← c.as_slice.ensures.keys)
-    (slice_get-get_or c.as_slice.result.now c.args.n expr within ∙ ap Some (sym c.index-as_slice-n.is))
+    (slice_get-get_or c.as_slice.result.now c.args.n expr within ∙ ap Some (sym (c.lend.ensures ∙ c.index-as_slice-n.is)))
