@@ -1,8 +1,8 @@
 ghost use Rattle.std.specs.Prelude.{◌≡◌, ◌<◌, Some, IfOk, IfSome, OnOk, OnErr, MatchOption, Contains, length, slice_get};
 ghost use Rattle.credential_text.specs.declared.exprs.Expr.TheVariants as exprs;
 
-use crate::kept_exprs::NodeExpr;
 use crate::listeners::{KeptListening, Port, keep_port, kept_port, port_name, port_number};
+use crate::node_exprs::NodeExpr;
 use crate::nodes::Nodes;
 use crate::solutions::{Reason, reason_name, reason_number};
 use crate::tables::Tables;

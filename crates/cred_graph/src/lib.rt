@@ -10,6 +10,7 @@
 mod graphs;
 mod kept_exprs;
 mod listeners;
+mod node_exprs;
 mod node_lists;
 mod nodes;
 mod solutions;
@@ -18,6 +19,6 @@ mod table_space;
 mod tables;
 
 pub use graphs::Graph;
-pub use kept_exprs::NodeExpr;
 pub use listeners::{Listening, Port};
+pub use node_exprs::NodeExpr;
 pub use solutions::{Reason, Solution};

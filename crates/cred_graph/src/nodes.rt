@@ -3,7 +3,8 @@ ghost use Rattle.credential_text.specs.declared.exprs.Expr.{Expr};
 ghost use Rattle.credential_text.specs.declared.exprs.Expr.TheVariants as exprs;
 ghost use Rattle.credential_text.specs.Expr.{HasPartsInRange};
 
-use crate::kept_exprs::{KeptExpr, NodeExpr};
+use crate::kept_exprs::KeptExpr;
+use crate::node_exprs::NodeExpr;
 use crate::table_space::{kept_room, kept_when_empty};
 use credential_text::Expr;
 use indexmap::IndexSet;
@@ -54,6 +55,12 @@ impl Nodes {
     /// The number of the expression's node, if it has one.
     pub fn number(&self, expr: &Expr) -> Option<u32>
         ensures { MatchOption result (Contains self.now expr.now → ⊥) (λ n. slice_get self.now n ≡ Some expr.now) }
+    {
+        self.place(NodeExpr::of(expr))
+    }
+
+    fn place(&self, expr: NodeExpr<'_>) -> Option<u32>
+        ensures { MatchOption result (Contains self.now (expr_lent expr.entry) → ⊥) (λ n. slice_get self.now n ≡ Some (expr_lent expr.entry)) }
     {
         match self.exprs.get_index_of(expr) {
             Some(n) => Some(n as u32),
@@ -123,7 +130,7 @@ impl Nodes {
     pub fn entity_number(&self, who: &Entity) -> Option<u32>
         ensures { MatchOption result (Contains self.now (exprs.Ent who.now) → ⊥) (λ k. slice_get self.now k ≡ Some (exprs.Ent who.now)) }
     {
-        self.number(&Expr::Ent(*who))
+        self.place(NodeExpr::Ent(who))
     }
 
     /// The entity of this number.

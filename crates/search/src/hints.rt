@@ -13,7 +13,7 @@ use snapshots::Snapshot;
 
 // The role that the expression is, if it is one.
 fn role_of(expr: NodeExpr<'_>) -> Option<&Role>
-    ensures { need_for (option_copied result) ≡ rows_for (expr_lent expr) }
+    ensures { need_for (option_copied result) ≡ rows_for (expr_lent expr.entry) }
 {
     match expr {
         NodeExpr::Rol(role) => Some(role),
