@@ -72,15 +72,11 @@ Solves old new key r false = HasKey old key × (new ≡ old)
 
 -- the graph that the tables stand for
 abbrev pub graph_as : List Expr → List Expr → List (List KeptListening) → List ((ℕ × ℕ) × Reason ℕ ℕ) → GraphState
-graph_as nodes strangers lists entries = record {
-  nodes = nodes;
-  listeners = lists_from nodes strangers 0 (length nodes) lists;
-  solutions = map (solution_as nodes) entries;
-}
+graph_as nodes strangers lists entries =
+    record { nodes = nodes; listeners = lists_from nodes strangers 0 (length nodes) lists; solutions = map (solution_as nodes) entries }
 
 -- they are a graph, who is listened to is a node, and each number is one of an entity
-pub record IsStored (nodes : List Expr) (strangers : List Expr) (lists : List (List KeptListening))
-    (entries : List ((ℕ × ℕ) × Reason ℕ ℕ)) : Type 0 where
+pub record IsStored (nodes strangers : List Expr) (lists : List (List KeptListening)) (entries : List ((ℕ × ℕ) × Reason ℕ ℕ)) : Type 0 where
   pub graph : IsGraph (graph_as nodes strangers lists entries)
   pub short : length nodes ≤ 2 ^ 32
   pub once : IsOnce strangers

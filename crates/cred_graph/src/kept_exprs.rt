@@ -4,7 +4,7 @@ ghost use Rattle.credential_text.specs.Expr.{HasPartsInRange};
 ghost use Rattle.cred_graph.specs.KeptExpr.{expr_lent};
 
 use crate::node_exprs::NodeExpr;
-use credential_text::Expr;
+use credential_text::{Expr, Part};
 use indexmap::Equivalent;
 use names::Entity;
 use std::alloc::{AllocError, Global};
@@ -83,13 +83,17 @@ impl Eq for KeptExpr {
 }
 
 impl Hash for KeptExpr {
-    ghost use Rattle.std.proofs.Common.{ap};
+    ghost use Rattle.std.specs.Prelude.{◌++◌};
+    ghost use Rattle.std.specs.List.{flat_map};
+    ghost use Rattle.std.specs.Hash as fed;
+    ghost use Rattle.std.specs.Hash.{same_Alike};
+    ghost use Rattle.credential_text.specs.Expr.{plain_names, met_parts};
     ghost use Rattle.credential_text.proofs.Equality.{exprs_decided};
-    ghost use Rattle.cred_graph.specs.KeptExpr.{expr_fed};
 
-    ghost hash_input = { expr_fed };
+    ghost hash_input = { λ e. flat_map (λ name. flat_map fed.u8 name ++ fed.u8 0) (plain_names e)
+        ++ flat_map ⟦<Part as Hash>⟧.hash_input (met_parts e) };
 
-    ghost respects_eq = { λ e f h. ap expr_fed ((exprs_decided e f).0 h) };
+    ghost respects_eq = { (same_Alike _ exprs_decided).fed };
 
     fn hash<H: Hasher>(&self, state: &mut H) {
         self.lend().hash(state);
@@ -101,11 +105,11 @@ impl Equivalent<KeptExpr> for NodeExpr<'_> {
     ghost use Rattle.std.proofs.Common.{ap};
     ghost use Rattle.credential_text.proofs.Equality.{exprs_decided};
     ghost use Rattle.credential_text.specs.contracts.exprs.ExprEq.TheImpl.Laws.{laws-law};
-    ghost use Rattle.cred_graph.specs.KeptExpr.{expr_lent, expr_fed};
+    ghost use Rattle.cred_graph.specs.KeptExpr.{expr_lent};
 
     ghost equivalent = { λ n. ⟦<Expr as PartialEq>⟧.eq (expr_lent n) };
 
-    ghost respects_hash = { λ n e h. ap expr_fed ((exprs_decided (expr_lent n) e).0 h) };
+    ghost respects_hash = { λ n e h. ap ⟦<KeptExpr as Hash>⟧.hash_input ((exprs_decided (expr_lent n) e).0 h) };
 
     ghost respects_eq = { λ n. laws-law.congr (expr_lent n) };
 

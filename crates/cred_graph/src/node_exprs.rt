@@ -1,7 +1,11 @@
-ghost use Rattle.std.specs.Prelude.{◌≡◌, ◌++◌, IfOk, fold};
-ghost use Rattle.cred_graph.specs.KeptExpr.{expr_lent, name_fed};
+ghost use Rattle.std.specs.Prelude.{◌≡◌, ◌++◌, IfOk, OnErr, fold};
+ghost use Rattle.std.specs.List.{flat_map};
+ghost use Rattle.std.specs.Hash as fed;
+ghost use Rattle.credential_text.specs.Expr.{IsIntersection};
+ghost use Rattle.cred_graph.specs.KeptExpr.{expr_lent};
 
-use credential_text::{Expr, Parts};
+use crate::kept_exprs::KeptExpr;
+use credential_text::{Expr, Part, Parts};
 use names::{Entity, Role, RoleName};
 use std::alloc::AllocError;
 use std::hash::{Hash, Hasher};
@@ -35,7 +39,8 @@ impl<'a> NodeExpr<'a> {
 
     /// A copy of the expression. Only that of an intersection takes memory.
     pub fn to_expr(&self) -> Result<Expr, AllocError>
-        ensures { IfOk result (λ e. e ≡ expr_lent self.now) }
+        ensures same { IfOk result (λ e. e ≡ expr_lent self.now) }
+        ensures growth { OnErr result (IsIntersection (expr_lent self.now)) }
     {
         Ok(match self {
             NodeExpr::Ent(who) => Expr::Ent(**who),
@@ -81,11 +86,11 @@ impl Eq for NodeExpr<'_> {
 impl Hash for NodeExpr<'_> {
     ghost use Rattle.std.proofs.Common.{ap};
     ghost use Rattle.credential_text.proofs.Equality.{exprs_decided};
-    ghost use Rattle.cred_graph.specs.KeptExpr.{expr_lent, expr_fed};
+    ghost use Rattle.cred_graph.specs.KeptExpr.{expr_lent};
 
-    ghost hash_input = { λ n. expr_fed (expr_lent n) };
+    ghost hash_input = { λ n. ⟦<KeptExpr as Hash>⟧.hash_input (expr_lent n) };
 
-    ghost respects_eq = { λ m n h. ap expr_fed ((exprs_decided (expr_lent m) (expr_lent n)).0 h) };
+    ghost respects_eq = { λ m n h. ap ⟦<KeptExpr as Hash>⟧.hash_input ((exprs_decided (expr_lent m) (expr_lent n)).0 h) };
 
     fn hash<H: Hasher>(&self, state: &mut H) {
         match self {
@@ -95,21 +100,22 @@ impl Hash for NodeExpr<'_> {
                 hash_role(base, state);
                 hash_name(name.bytes(), state);
             }
-            NodeExpr::Meet(parts) => parts.hash(state),
+            NodeExpr::Meet(parts) => Part::hash_slice(parts.as_slice(), state),
         }
     }
 }
 
+// Both names of the role.
 fn hash_role<H: Hasher>(role: &Role, state: &mut H)
-    ensures { state.new ≡ fold H.write state.old (name_fed role.now.owner ++ name_fed role.now.name) }
+    ensures { state.new ≡ fold H.write state.old ((flat_map fed.u8 role.now.owner ++ fed.u8 0) ++ flat_map fed.u8 role.now.name ++ fed.u8 0) }
 {
     hash_name(role.owner.bytes(), state);
     hash_name(role.name.bytes(), state);
 }
 
-// A name's length isn't hashed, which takes as long as ten of its bytes.
+// The bytes of the name, and a zero, which no name has. To hash its length would take as long as ten bytes.
 fn hash_name<H: Hasher>(bytes: &[u8], state: &mut H)
-    ensures { state.new ≡ fold H.write state.old (name_fed bytes.now) }
+    ensures { state.new ≡ fold H.write state.old (flat_map fed.u8 bytes.now ++ fed.u8 0) }
 {
     u8::hash_slice(bytes, state);
     state.write_u8(0);
