@@ -12,7 +12,7 @@ use names::Entity;
 use std::alloc::{AllocError, Global};
 use std::marker::Model;
 
-/// So many nodes have numbers of 32 bits. Their expressions alone would take some 900 gigabytes, so a growth is refused long
+/// So many nodes have numbers of 32 bits. Their expressions alone would take some 300 gigabytes, so a growth is refused long
 /// before.
 const MOST: usize = 1 << 32;
 
@@ -59,6 +59,7 @@ impl Nodes {
         self.place(NodeExpr::of(expr))
     }
 
+    // The number of the expression's node, which is looked up as it is lent.
     fn place(&self, expr: NodeExpr<'_>) -> Option<u32>
         ensures { MatchOption result (Contains self.now (expr_lent expr.entry) → ⊥) (λ n. slice_get self.now n ≡ Some (expr_lent expr.entry)) }
     {
