@@ -4,7 +4,7 @@ ghost use Rattle.cred_graph.specs.Graph.{IsGraph, empty_graph};
 
 use crate::answers::node_for;
 use crate::letters::Load;
-use cred_graph::{Graph, Port};
+use cred_graph::Graph;
 use credential_text::Expr;
 use monitors::{KeyedMeet, MeetMonitor, ToldKeys};
 use names::Role;
@@ -88,7 +88,6 @@ impl Findings {
     pub(crate) fn new(alloc: Global) -> Self
         ensures { result ≡ progress empty_graph [] [] }
     {
-        let _ports: Option<Port> = None;
         Findings {
             graph: Graph::new(alloc),
             monitors: Vec::new(alloc),

@@ -22,7 +22,7 @@ use crate::outcomes::{Finished, Status};
 use crate::queries::{Hint, Need, Query, Task};
 use crate::stages::{Stage, break_off, deliver, give_back, held_letter, hold, send};
 use crate::tables::Tables;
-use cred_graph::{Graph, Port};
+use cred_graph::Graph;
 use names::{Entity, Role};
 use scholten_core::Diffusion;
 use snapshots::{Snapshot, Span};
@@ -93,20 +93,8 @@ impl Search {
     ghost use Rattle.search.specs.Stage.{HoldsLetter, letter_in, waiting_in, signals_in, held_in, stage_marked, Delivers};
     ghost use Rattle.search.specs.Finish.{IsSpanFor, need_for, need_of, Needs, Takes, TakesHeld, Receives, Finishes};
 
-    /// A search over the snapshot that may send so many letters, at least one. One letter, to the asked role, waits.
-    pub fn open(
-        alloc: Global,
-        snapshot: Arc<Snapshot>,
-        query: Query,
-        work: u64,
-    ) -> Result<Search, AllocError>
-        requires { 0 < work }
-        ensures { IfOk result (λ s. s ≡ new_search query work (arc_value snapshot)) }
-    {
-        Search::open_in(&mut Tables::new(alloc), alloc, snapshot, query, work)
-    }
-
-    /// A search as `open` makes it, in the spare tables, in whose place stand others then, with no memory.
+    /// A search over the snapshot that may send so many letters, at least one. One letter, to the asked role, waits. It is opened
+    /// in the spare tables, in whose place stand others then, with no memory.
     pub fn open_in(
         spare: &mut Tables,
         alloc: Global,
@@ -117,11 +105,12 @@ impl Search {
         requires { 0 < work }
         ensures { IfOk result (λ s. s ≡ new_search query work (arc_value snapshot)) }
     {
-        let mut found = mem::replace(&mut spare.found, Findings::new(alloc));
-        let mut stage = mem::replace(&mut spare.stage, Stage::Spent);
+        let Tables {
+            mut found,
+            mut stage,
+        } = mem::replace(spare, Tables::new(alloc));
         found.first(query.role())?;
         stage.begin(alloc)?;
-        let _ports: Option<Port> = None;
         Ok(Search {
             query,
             work,
@@ -142,6 +131,7 @@ impl Search {
     /// Ends the search. Its tables, emptied, are spare from now on: those of its letters only where the search is small and there
     /// are no others.
     pub fn leave_tables(self, spare: &mut Tables) {
+        let is_small = self.is_small();
         let Search {
             query: _query,
             work: _work,
@@ -151,11 +141,7 @@ impl Search {
             keeps_room: _,
             alloc: _alloc,
         } = self;
-        if !spare.stage.has_first_room()
-            && found.is_small()
-            && stage.is_small()
-            && stage.has_first_room()
-        {
+        if is_small && stage.has_first_room() && !spare.stage.has_first_room() {
             spare.stage = stage;
         }
         found.forget();
@@ -204,7 +190,6 @@ impl Search {
             → OwesRules (rows_of self.now)
             (asked_role self.now.query) (net_of self.now.graph self.now.monitors c) }
     {
-        let _work = self.work;
         status_at(&self.stage, self.found.graph(), &self.query)
     }
 

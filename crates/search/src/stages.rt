@@ -59,8 +59,7 @@ impl Stage {
         ensures started { OnOk result (self.new ≡ Stage.Running (started 0 Load.Start)) }
     {
         if let Stage::Running(running) = self {
-            running.restart(0, Load::Start)?;
-            return Ok(());
+            return running.restart(0, Load::Start);
         }
         *self = Stage::Running(Diffusion::start(alloc, 0, Load::Start)?);
         Ok(())
