@@ -40,7 +40,6 @@ pub struct Search {
     stage: Stage,
     // Whether it keeps the room of its tables once it is completed, where that isn't much.
     keeps_room: bool,
-    alloc: Global,
 }
 
 impl Model for Search {
@@ -82,7 +81,6 @@ impl Drop for Search {
             found: _found,
             stage: _stage,
             keeps_room: _,
-            alloc: _alloc,
         } = self;
     }
 }
@@ -118,7 +116,6 @@ impl Search {
             found,
             stage,
             keeps_room: true,
-            alloc,
         })
     }
 
@@ -139,7 +136,6 @@ impl Search {
             mut found,
             stage,
             keeps_room: _,
-            alloc: _alloc,
         } = self;
         if is_small && stage.has_first_room() && !spare.stage.has_first_room() {
             spare.stage = stage;
@@ -211,7 +207,8 @@ impl Search {
         ensures settled { IfOk result (λ members.
             (role : Role) → self.now.query ≡ Query.Who role → settled_of self.now ≡ Members members.items) }
     {
-        solutions_in_order(self.alloc, self.found.graph(), 0)
+        let alloc = *self.found.monitors.allocator();
+        solutions_in_order(alloc, self.found.graph(), 0)
     }
 
     /// Takes the waiting letter at that place, in order of sending, without the snapshot: its number, and what it
