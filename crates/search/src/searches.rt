@@ -91,8 +91,20 @@ impl Search {
     ghost use Rattle.search.specs.Stage.{HoldsLetter, letter_in, waiting_in, signals_in, held_in, stage_marked, Delivers};
     ghost use Rattle.search.specs.Finish.{IsSpanFor, need_for, need_of, Needs, Takes, TakesHeld, Receives, Finishes};
 
-    /// A search over the snapshot that may send so many letters, at least one. One letter, to the asked role, waits. It is opened
-    /// in the spare tables, in whose place stand others then, with no memory.
+    /// A search over the snapshot that may send so many letters, at least one. One letter, to the asked role, waits.
+    pub fn open(
+        alloc: Global,
+        snapshot: Arc<Snapshot>,
+        query: Query,
+        work: u64,
+    ) -> Result<Search, AllocError>
+        requires { 0 < work }
+        ensures { IfOk result (λ s. s ≡ new_search query work (arc_value snapshot)) }
+    {
+        Search::open_in(&mut Tables::new(alloc), alloc, snapshot, query, work)
+    }
+
+    /// A search as `open` makes it, in the spare tables, in whose place stand others then, with no memory.
     pub fn open_in(
         spare: &mut Tables,
         alloc: Global,

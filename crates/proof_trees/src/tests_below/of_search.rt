@@ -7,7 +7,7 @@ mod refusals;
 
 use credential_text::{CredFault, Credential, read_credential};
 use names::{Entity, Role};
-use search::{Finished, Hint, Need, Query, Search, Status, Tables};
+use search::{Finished, Hint, Need, Query, Search, Status};
 use snapshots::Snapshot;
 use std::alloc::{AllocError, Global};
 use std::sync::Arc;
@@ -176,7 +176,7 @@ pub(super) fn opened(
     work: u64,
 ) -> Result<Search, Fail> {
     let snapshot = snapshot_of(alloc, texts)?;
-    Ok(Search::open_in(&mut Tables::new(alloc), alloc, snapshot, query, work.max(1))?)
+    Ok(Search::open(alloc, snapshot, query, work.max(1))?)
 }
 
 // A search over a snapshot that others may search too.
@@ -186,13 +186,7 @@ pub(super) fn opened_over(
     query: Query,
     work: u64,
 ) -> Result<Search, AllocError> {
-    Search::open_in(
-        &mut Tables::new(alloc),
-        alloc,
-        snapshot.clone()?,
-        query,
-        work.max(1),
-    )
+    Search::open(alloc, snapshot.clone()?, query, work.max(1))
 }
 
 // Whether `D` is in `A.r`.
