@@ -107,7 +107,8 @@ impl Hash for NodeExpr<'_> {
 
 // Both names of the role.
 fn hash_role<H: Hasher>(role: &Role, state: &mut H)
-    ensures { state.new ≡ fold H.write state.old ((flat_map fed.u8 role.now.owner ++ fed.u8 0) ++ flat_map fed.u8 role.now.name ++ fed.u8 0) }
+    ensures { state.new ≡ fold H.write state.old
+        ((flat_map fed.u8 role.now.owner ++ fed.u8 0) ++ flat_map fed.u8 role.now.name ++ fed.u8 0) }
 {
     hash_name(role.owner.bytes(), state);
     hash_name(role.name.bytes(), state);

@@ -61,7 +61,8 @@ impl Nodes {
 
     // The number of the expression's node, which is looked up as it is lent.
     fn place(&self, expr: NodeExpr<'_>) -> Option<u32>
-        ensures { MatchOption result (Contains self.now (expr_lent expr.entry) → ⊥) (λ n. slice_get self.now n ≡ Some (expr_lent expr.entry)) }
+        ensures { MatchOption result (Contains self.now (expr_lent expr.entry) → ⊥)
+            (λ n. slice_get self.now n ≡ Some (expr_lent expr.entry)) }
     {
         match self.exprs.get_index_of(expr) {
             Some(n) => Some(n as u32),
