@@ -44,8 +44,8 @@ def search_all(session, opened):
 
 # of each case what a session does in its turn, and the bytes of its open searches
 CASES = {
-    "versions": (hold_versions, lambda rows: OPEN * (16_000 + 100 + 2 * 400 + 10_000 + rows // 8)),
-    "letters": (search_all, lambda rows: 16_000 + 100 + 2 * 400 * rows),
+    "versions": (hold_versions, lambda rows: OPEN * (13_000 + 100 + 2 * 300 + 10_000 + rows // 8)),
+    "letters": (search_all, lambda rows: 13_000 + 100 + 2 * 300 * rows),
 }
 
 
@@ -58,7 +58,7 @@ def main(port, case, count, rows):
     for session in sessions * ROUNDS:
         opened += turn(session, opened)
     changes = rows + (opened if case == "versions" else 0)
-    reckoned = 2_000_000 + 1_300 + 70 * changes + 500 * rows + 40_000 * count + bytes_of_searches(rows)
+    reckoned = 2_000_000 + 1_500 + 70 * changes + 400 * rows + 40_000 * count + bytes_of_searches(rows)
     print(reckoned // 1000)
 
 
