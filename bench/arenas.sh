@@ -1,7 +1,7 @@
 #!/usr/bin/env bash
 # The most memory that a service takes whose sessions take turns, beside what docs/OPERATING.md reckons for all that it holds
-# at once: where the C library keeps arenas as it likes, up to 8 for each processor, and where it keeps one for all threads, and
-# gives back to the system only what is much, as ./rtsearch tells it to. First sessions of one tenant with 10,000 rows, each of
+# at once: where the C library keeps arenas as it likes, up to 8 for each processor, and where it keeps one for all threads, in huge
+# pages, as ./rtsearch tells it to. First sessions of one tenant with 10,000 rows, each of
 # which opens 64 searches, a change before each, and ends them all; then sessions each of which has one search of 180,000 letters.
 #
 # Prints the kilobytes that were taken and those that are reckoned, and how many times as many that is. Each figure is the median
@@ -13,8 +13,8 @@ program=${2:-$(built_program)}
 printf '%s\n' 'tenant Archive word 100000 1 64 1000000 1000000000 1000000000' begin > "$work/roster"
 
 # what the launcher says of memory, which nobody else is to say
-for name in "${!MALLOC_@}"; do unset "$name"; done
-mapfile -t one < <(sed -n 's/^export \(MALLOC_[A-Z_]*\)=.*-\([0-9]*\)}"$/\1=\2/p' "$root/rtsearch")
+for name in "${!MALLOC_@}" GLIBC_TUNABLES; do unset "$name"; done
+mapfile -t one < <(sed -n 's/^export \([A-Z_]*\)="${[A-Z_]*-\(.*\)}"$/\1=\2/p' "$root/rtsearch")
 
 # once ARENAS CASE SESSIONS ROWS: the kilobytes, and those reckoned.
 once() {

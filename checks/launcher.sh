@@ -75,7 +75,7 @@ END
 #!/usr/bin/env bash
 while [ "$1" != -o ]; do shift; done
 # (the program tells each file of the repository that it was left with)
-printf '#!/bin/sh\necho "program: $*"\n[ "$1" != memory ] || echo "$MALLOC_ARENA_MAX $MALLOC_MMAP_THRESHOLD_ $MALLOC_TRIM_THRESHOLD_"\nls -l /proc/$$/fd | grep "crates/[a-z]*/out/proved"\ncat\nexit 7\n' >"$2"
+printf '#!/bin/sh\necho "program: $*"\n[ "$1" != memory ] || echo "$MALLOC_ARENA_MAX $GLIBC_TUNABLES"\nls -l /proc/$$/fd | grep "crates/[a-z]*/out/proved"\ncat\nexit 7\n' >"$2"
 chmod +x "$2"
 END
     echo "a kit" >"$work/kit/version"
@@ -137,7 +137,7 @@ tells_how_to_keep_memory() {
         as=(env ${given:+"$given"})
         launch memory
         tail -n +2 "$out"
-    done | tr '\n' ' ' | grep -qx '1 33554432 134217728 1 33554432 134217728 2 33554432 134217728 '
+    done | tr '\n' ' ' | grep -qx '1 glibc.malloc.hugetlb=1 1 glibc.malloc.hugetlb=1 2 glibc.malloc.hugetlb=1 '
 }
 
 # Each is proved from nothing, over the statements of those below, and nothing but the program is compiled.

@@ -20,7 +20,7 @@ def roster_of(tenants):
 
 
 class Program:
-    """The program with these words, and the launcher's on memory."""
+    """The program with these words, in one arena, as the launcher has it; not in huge pages, of which one that is begun counts whole."""
 
     def __init__(self, words, source):
         command = ["env", *(f"{name}={value}" for name, value in SETTINGS), sys.argv[1], *words]

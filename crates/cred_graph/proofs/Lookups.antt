@@ -1,13 +1,12 @@
 -- What the look-ups of a table find, where the keys' `==` is equality.
-use Rattle.std.proofs.Common.{ℕ, zero, suc, ◌≡◌, ◌∙◌, ◌↔◌, ap, refl, sym, inl, inr, Bool}
+use Rattle.std.proofs.Common.{ℕ, zero, suc, ◌≡◌, ◌∙◌, ◌↔◌, ap, sym, inl, inr, Bool}
 use Rattle.std.proofs.Common.{true, false, true≢false, List, [], ◌∷◌, ◌++◌, Some, None, Contains, get_or, slice_get}
 use Rattle.std.specs.Bool.{Decides}
 use Rattle.std.specs.List.{list_any, position}
-use Rattle.std.specs.Map.{lookup_key}
+use Rattle.std.specs.Map.{lookup, lookup_key}
 use Rattle.std.proofs.lemmas.Bool.{cases_Bool, or_left, or_right, cond-true, cond-false, false_from_ne_true}
 use Rattle.std.proofs.lemmas.List.Quantifiers.{position-Some}
 use Rattle.std.proofs.lemmas.Option.{none-some, same_Some, slice_get-get_or}
-use Rattle.indexmap.specs.IndexMap.{insert_entry}
 use Rattle.indexmap.specs.IndexSet.{insert_key}
 use Rattle.indexmap.proofs.CallerLemmas.{Contains-list_any}
 use Rattle.cred_graph.proofs.NodeListLemmas.{place_of_Contains}
@@ -47,6 +46,14 @@ module _ {K : Type 0} (eq : K → K → Bool) (exact : (x y : K) → Decides (eq
       | inr other ↦ lookup_key_is es k x (sym (cond-false (eq k e.0) (Some e.0) (lookup_key (eq k) es) other) ∙ found)
     ]
 
+    -- where a key is found an entry has it
+    pub lookup_key_there : (es : List (K × V)) (k x : K) → lookup_key (eq k) es ≡ Some x → (j : ℕ) × (v : V) × (slice_get es j ≡ Some (k, v))
+    lookup_key_there [] k x found = absurd (none-some x found)
+    lookup_key_there (e ∷ es) k x found = elim (cases_Bool (eq k e.0)) [
+      | inl same ↦ (zero, e.1, λ i. Some ((sym ((exact k e.0).0 same)) i, e.1))
+      | inr other ↦ let rest = lookup_key_there es k x (sym (cond-false (eq k e.0) (Some e.0) (lookup_key (eq k) es) other) ∙ found) in (suc rest.0, rest.1, rest.2)
+    ]
+
     lookup_none_step : (f : K × V) (es : List (K × V)) (k : K) (e : K × V) → k ≡ e.0 → eq k f.0 ≡ false →
         ((j : ℕ) (e : K × V) → slice_get es j ≡ Some e → k ≡ e.0 → ⊥) → (j : ℕ) → slice_get (f ∷ es) j ≡ Some e → ⊥
     lookup_none_step f es k e same other rest zero at = true≢false (sym ((exact k f.0).1 (same ∙ ap (λ (x : K × V). x.0) (sym (same_Some f e at)))) ∙ other)
@@ -60,11 +67,9 @@ module _ {K : Type 0} (eq : K → K → Bool) (exact : (x y : K) → Decides (eq
           lookup_none_step f es k e same other (lookup_key_none es k (sym (cond-false (eq k f.0) (Some f.0) (lookup_key (eq k) es) other) ∙ none)) j at
     ]
 
-    -- an entry whose key isn't there goes last
-    pub insert_entry-absent : (es : List (K × V)) (k : K) (v : V) → ((j : ℕ) (e : K × V) → slice_get es j ≡ Some e → k ≡ e.0 → ⊥) →
-        insert_entry eq es k v ≡ es ++ (k, v) ∷ []
-    insert_entry-absent [] k v absent = refl
-    insert_entry-absent (e ∷ es) k v absent =
-        let other : eq k e.0 ≡ false = false_from_ne_true (eq k e.0) (λ same. absent 0 e refl ((exact k e.0).0 same)) in
-        cond-false (eq k e.0) ((e.0, v) ∷ es) (e ∷ insert_entry eq es k v) other ∙
-        ap (λ l. e ∷ l) (insert_entry-absent es k v (λ j. absent (suc j)))
+    pub lookup_none : (es : List (K × V)) (k : K) → lookup (eq k) es ≡ None → (j : ℕ) (e : K × V) → slice_get es j ≡ Some e → k ≡ e.0 → ⊥
+    lookup_none [] k none j e at same = none-some e at
+    lookup_none (f ∷ es) k none j e at same = elim (cases_Bool (eq k f.0)) [
+      | inl here ↦ none-some f.1 (sym none ∙ cond-true (eq k f.0) (Some f.1) (lookup (eq k) es) here)
+      | inr other ↦ lookup_none_step f es k e same other (lookup_none es k (sym (cond-false (eq k f.0) (Some f.1) (lookup (eq k) es) other) ∙ none)) j at
+    ]

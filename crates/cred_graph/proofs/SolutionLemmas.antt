@@ -1,16 +1,17 @@
 -- Solutions in their table, by numbers.
 use Rattle.std.proofs.Common.{ℕ, ◌≡◌, ◌==◌, ◌∙◌, ap, refl, sym, subst, inl, inr, if◌then◌else◌, List, [], ◌∷◌, ◌++◌, Some, None, filter, map, slice_get, zero, suc, ◌<◌, arith, All, Contains, length, take}
-use Rattle.std.specs.Map.{lookup_key}
+use Rattle.std.specs.Map.{lookup, lookup_key}
 use Rattle.std.proofs.lemmas.Bool.{cases_eq, cond-true, cond-false, eq-eqb, ne_eqb}
 use Rattle.std.proofs.lemmas.List.{append-nil, map_push}
 use Rattle.std.proofs.lemmas.List.Elements.{filter-append, All-head}
 use Rattle.indexmap.specs.IndexMap.{insert_entry}
+use Rattle.indexmap.proofs.MapLemmas.{absent_from_lookup, insert_entry-absent}
 use Rattle.cred_graph.specs.declared.solutions.Reason.{Reason}
 use Rattle.cred_graph.specs.NodeLists.{list_at, AddsAt, AreSame}
 use Rattle.cred_graph.specs.Stored.{HasKey, members_by}
 use Rattle.cred_graph.proofs.Keys.{solved_decided, solved_eq}
 use Rattle.cred_graph.proofs.NodeListLemmas.{Contains-at_place, place_of_Contains}
-use Rattle.cred_graph.proofs.Lookups.{lookup_key_is, lookup_key_none, insert_entry-absent}
+use Rattle.cred_graph.proofs.Lookups.{lookup_key_is, lookup_key_none, lookup_key_there, lookup_none}
 use Rattle.std.proofs.lemmas.Option.{none-some, slice_get_within}
 use Rattle.credential_text.specs.declared.exprs.Expr.{Expr}
 use Rattle.credential_text.specs.declared.exprs.Expr.TheVariants.{Ent, Meet}
@@ -30,13 +31,21 @@ no_entry es key none (r, stands) =
     let at = place_of_Contains es (key, r) stands in
     lookup_key_none solved_eq solved_decided es key (sym none) at.0 (key, r) at.1 refl
 
+pub no_value : (es : List ((ℕ × ℕ) × Reason ℕ ℕ)) (key : ℕ × ℕ) → lookup (solved_eq key) es ≡ None → HasKey es key → ⊥
+no_value es key none (r, stands) =
+    let at = place_of_Contains es (key, r) stands in
+    lookup_none solved_eq solved_decided es key none at.0 (key, r) at.1 refl
+
+pub has_key : (es : List ((ℕ × ℕ) × Reason ℕ ℕ)) (key k : ℕ × ℕ) → lookup_key (solved_eq key) es ≡ Some k → HasKey es key
+has_key es key k found =
+    let at = lookup_key_there solved_eq solved_decided es key k found in
+    (at.1, Contains-at_place es at.0 (key, at.1) at.2)
+
 -- an entry whose key isn't there goes last
-pub entry_added : (es mid after : List ((ℕ × ℕ) × Reason ℕ ℕ)) (key : ℕ × ℕ) (r : Reason ℕ ℕ) → (HasKey es key → ⊥) →
+pub entry_added : (es mid after : List ((ℕ × ℕ) × Reason ℕ ℕ)) (key : ℕ × ℕ) (r : Reason ℕ ℕ) → lookup (solved_eq key) es ≡ None →
     mid ≡ es → after ≡ insert_entry solved_eq mid key r → after ≡ es ++ (key, r) ∷ []
-entry_added es mid after key r absent reserved is =
-    let none : (j : ℕ) (e : (ℕ × ℕ) × Reason ℕ ℕ) → slice_get es j ≡ Some e → key ≡ e.0 → ⊥ =
-    λ j e at same. absent (e.1, Contains-at_place es j (key, e.1) (at ∙ ap (λ (x : ℕ × ℕ). Some (x, e.1)) (sym same))) in
-    is ∙ ap (λ l. insert_entry solved_eq l key r) reserved ∙ insert_entry-absent solved_eq solved_decided es key r none
+entry_added es mid after key r none reserved is =
+    is ∙ ap (λ l. insert_entry solved_eq l key r) reserved ∙ insert_entry-absent solved_eq key r es (absent_from_lookup (solved_eq key) es none)
 
 members_pushed : (n : ℕ) (es : List ((ℕ × ℕ) × Reason ℕ ℕ)) (e : (ℕ × ℕ) × Reason ℕ ℕ) →
     members_by n (es ++ e ∷ []) ≡ map (λ (x : (ℕ × ℕ) × Reason ℕ ℕ). x.0.1) (filter (λ (x : (ℕ × ℕ) × Reason ℕ ℕ). x.0.0 == n) es ++ (if e.0.0 == n then e ∷ [] else []))

@@ -4,15 +4,15 @@ ghost use Rattle.credential_text.specs.Expr.{HasPartsInRange};
 ghost use Rattle.cred_graph.specs.KeptExpr.{expr_lent};
 
 use crate::node_exprs::NodeExpr;
-use credential_text::{Expr, Part};
+use credential_text::{Expr, Part, Parts};
 use indexmap::Equivalent;
-use names::Entity;
+use names::{Entity, Role, RoleName};
 use std::alloc::{AllocError, Global};
 use std::hash::{Hash, Hasher};
 use std::marker::Model;
 
 /// An expression as a graph keeps it, in 72 bytes: an entity, which nearly every node of a large graph is, stands in place, and
-/// any other behind an address.
+/// a role behind an address.
 #[derive(Drop)]
 pub struct KeptExpr {
     kept: Kept,
@@ -21,7 +21,9 @@ pub struct KeptExpr {
 #[derive(Drop)]
 enum Kept {
     Ent(Entity),
-    Other(Box<Expr>),
+    Rol(Box<Role>),
+    Link(Box<(Role, RoleName)>),
+    Meet(Parts),
 }
 
 impl Model for KeptExpr {
@@ -42,11 +44,11 @@ impl KeptExpr {
     {
         let kept = match expr {
             Expr::Ent(who) => Kept::Ent(*who),
-            Expr::Rol(role) => Kept::Other(Box::new(alloc, Expr::Rol(*role))?),
-            Expr::Link(base, name) => Kept::Other(Box::new(alloc, Expr::Link(*base, *name))?),
+            Expr::Rol(role) => Kept::Rol(Box::new(alloc, *role)?),
+            Expr::Link(base, name) => Kept::Link(Box::new(alloc, (*base, *name))?),
             Expr::Meet(parts) => {
                 let _parts = parts.as_slice();
-                Kept::Other(Box::new(alloc, Expr::Meet(parts.try_clone()?))?)
+                Kept::Meet(parts.try_clone()?)
             }
         };
         Ok(KeptExpr { kept })
@@ -59,7 +61,12 @@ impl KeptExpr {
     {
         match &self.kept {
             Kept::Ent(who) => NodeExpr::Ent(who),
-            Kept::Other(expr) => NodeExpr::of(expr.as_ref()),
+            Kept::Rol(role) => NodeExpr::Rol(role.as_ref()),
+            Kept::Link(link) => {
+                let (base, name) = link.as_ref();
+                NodeExpr::Link(base, name)
+            }
+            Kept::Meet(parts) => NodeExpr::Meet(parts),
         }
     }
 }

@@ -5,11 +5,11 @@ use crate::listeners::KeptListening;
 use smallvec::SmallVec;
 use std::alloc::AllocError;
 
-/// The listeners of a node and the numbers of its solutions, each in order of adding. Four listeners and eight numbers
+/// The listeners of a node and the numbers of its solutions, each in order of adding. Two listeners and four numbers
 /// stand in the record itself.
 pub struct NodeLists {
-    pub listeners: SmallVec<KeptListening, 4>,
-    pub members: SmallVec<u32, 8>,
+    pub listeners: SmallVec<KeptListening, 2>,
+    pub members: SmallVec<u32, 4>,
 }
 
 impl Drop for NodeLists {

@@ -6,6 +6,7 @@ use crate::node_lists::{NodeLists, add_listener, add_member};
 use crate::solutions::Reason;
 use crate::solved_hashes::SolvedHasher;
 use crate::table_space::{kept_room, kept_when_empty, room_for_one};
+use indexmap::map::Entry;
 use indexmap::{IndexMap, IndexSet};
 use std::alloc::{AllocError, Global};
 use std::hash::BuildHasherDefault;
@@ -173,14 +174,17 @@ impl Tables {
         ensures unchanged { OnErr result (self.new.1 ≡ self.old.1) }
         ensures listeners { AreSame self.old.0 self.new.0 }
     {
-        if let Some(_found) = self.find(node, who) {
-            return Ok(false);
-        }
         let room = room_for_one(self.reasons.len(), self.reasons.capacity());
-        self.reasons.reserve(room)?;
-        add_member(&mut self.lists, node, who)?;
-        let _earlier = self.reasons.insert((node, who), reason).unwrap();
-        Ok(true)
+        // Where this room is refused, a new entry asks for its own.
+        let _room = self.reasons.reserve(room);
+        match self.reasons.entry((node, who))? {
+            Entry::Occupied(_found) => Ok(false),
+            Entry::Vacant(place) => {
+                add_member(&mut self.lists, node, who)?;
+                let _added = place.insert_entry(reason);
+                Ok(true)
+            }
+        }
     }
 
     /// The numbers of the node's solutions.
