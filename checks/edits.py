@@ -4,16 +4,17 @@
   checks/edits.py [--over FOLDER] [NAME..]    those of these crates, or of all
 
 A function is proved by its own contract and by those of what it calls, so whether a wrong body is refused doesn't depend on
-what stands in other bodies. So the edits of a crate are applied to one copy of it, all that turn different functions at
-once, and one process proves the functions that they turn, and those that they call. Each of these has to be refused by a goal
-of its own: that something which it calls isn't proved is no refusal, nor is a name that a proof lacks. What isn't refused so is
-tried once more, in a round that hasn't begun or in one with others of its kind, and then alone; and alone is tried at once what
+what stands in other bodies. So the edits of a crate are applied to one copy of it, all that turn different functions at once,
+and one process proves the functions that they turn, and those that they call. Each of these has to be refused by a goal of its
+own: that something which it calls isn't proved is no refusal, nor is a name that a proof lacks. What isn't refused so is tried
+once more, in a round that hasn't begun or in one with others of its kind, and then alone; and alone is tried at once what
 changes a line outside functions. A crate's first such round keeps what it proves, and each later one begins with that, so it
-proves again what was turned and no more. Rounds take the processors that are free: one of several edits more than one, where no
-other waits, and a first one two at least, where there are four. An edit that turns no function's body, but a definition or a
-type, has a line `# at FUNCTION`, and has to be refused there. One for which the prover looks for minutes has a line `# long`, and
-is tried alone, beside its crate's first round. The other `#` line is for docs/EDITS.md (checks/index.py). `rt ci` and
-`rt must-fail NAME` try each edit in a process of its own, which loads the crates below each time.
+proves again what was turned and no more. Half of the processors are left to `rt ci` while it goes on, and each round takes
+one, since a second makes a third more work of it; then one of several edits takes more, where no other waits. An edit that
+turns no function's body, but a definition or a type, has a line `# at FUNCTION`, and has to be refused there. One for which
+the prover looks for minutes has a line `# long`, and is tried alone, beside its crate's first round. The other `#` line is for
+docs/EDITS.md (checks/index.py). `rt ci` and `rt must-fail NAME` try each edit in a process of its own, which loads the crates
+below each time.
 
 The crates below are taken from FOLDER/crates/NAME/out/rlib, as `rt ci` leaves them while it goes on there and writes what it says
 to FOLDER/said, which ends with a line `ended`; a crate's edits begin once those below it are proved. Without the option these are
@@ -226,11 +227,9 @@ class Round:
         """Before which others it begins: long ones first, then those that others wait for."""
         return not self.edits[0].is_long, self.first is not None
 
-    def jobs_among(self, ready, free, lanes):
-        """With how many jobs it begins, where so many rounds are ready, and so many of the lanes are free: one edit takes one."""
-        if len(self.edits) == 1:
-            return 1
-        return max(free // ready, lanes // 2 if self.first is None else 1, 1)
+    def jobs_among(self, ready, free):
+        """With how many jobs it begins, where so many rounds are ready, and so many lanes are free: one edit takes one."""
+        return 1 if len(self.edits) == 1 else max(free // ready, 1)
 
     def tell(self, toolchain, jobs):
         """Tries the round. Returns for each edit whether it is refused, and a text; and those that are to be tried once more."""
@@ -275,18 +274,18 @@ def proved_so_far(crates, said):
 
 def try_all(rounds, toolchain, lanes, look):
     """Tries each round as soon as it may begin, in order of rank, and of these the lowest crate's first; yields what comes of each
-    edit. `look` tells which crates are proved, and whether no more will be: before that one lane is left free."""
+    edit. `look` tells which crates are proved, and whether no more will be: before that half of the lanes are left free."""
     waiting, running = list(rounds), {}
     with concurrent.futures.ThreadPoolExecutor(lanes) as pool:
         while waiting or running:
             proved, has_ended = look()
             ready = sorted((it for it in waiting if it.may_begin(proved)), key=Round.rank)
             for at, it in enumerate(ready):
-                free = (lanes if has_ended else max(1, lanes - 1)) - sum(jobs for _, jobs in running.values())
+                free = (lanes if has_ended else max(1, lanes // 2)) - sum(jobs for _, jobs in running.values())
                 if free < 1:
                     break
                 waiting.remove(it)
-                jobs = it.jobs_among(len(ready) - at, free, lanes)
+                jobs = it.jobs_among(len(ready) - at, free) if has_ended else 1
                 running[pool.submit(it.tell, toolchain, jobs)] = it, jobs
             for it in [it for it in waiting if has_ended and not {below.name for below in it.crate.below} <= proved]:
                 waiting.remove(it)
