@@ -131,13 +131,13 @@ builds_each_crate_once_and_runs_the_program() {
 
 # Right behind a build, and later. Who runs the program may say otherwise.
 tells_how_to_keep_memory() {
-    local given
+    local given tunables=glibc.malloc.hugetlb=1:glibc.malloc.mmap_threshold=1048576:glibc.malloc.trim_threshold=134217728
     make_tree
     for given in '' '' MALLOC_ARENA_MAX=2; do
         as=(env ${given:+"$given"})
         launch memory
         tail -n +2 "$out"
-    done | tr '\n' ' ' | grep -qx '1 glibc.malloc.hugetlb=1 1 glibc.malloc.hugetlb=1 2 glibc.malloc.hugetlb=1 '
+    done | tr '\n' ' ' | grep -qx "1 $tunables 1 $tunables 2 $tunables "
 }
 
 # Each is proved from nothing, over the statements of those below, and nothing but the program is compiled.
