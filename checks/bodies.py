@@ -74,7 +74,7 @@ PLACES = [
     ("service/sessions.rt", "answer_session", "SessionEnd::Memory", "let Ok(mut out) = Outbox::make(alloc) else", TOLD),
     ("service/sessions.rt", "Session::let_in", "Refusal::Memory", "match door.let_in(self.rt, who): Err((door, _fault))", "a pass is refused to a known name at the bound of passes alone"),
     ("vaults/books.rt", "keep_on_page", "AllocError", "match pages.insert(who, page): Err(refused)", GROWTH),
-    ("vaults/entries.rt", "read_subject", "AllocError", "match read_credential(alloc, text): Err(_fault)", TOLD + ": the text is the one that was written"),
+    ("vaults/entries.rt", "read_entry", "AllocError", "let Ok(credential) = read_credential(alloc, subject) else", TOLD + ": the text is the one that was written"),
     ("vaults/faults.rt", "VaultFault from AllocError::from", "VaultFault::Memory", "", SAYS),
     ("vaults/own_rows.rt", "OwnRows::put", "AllocError", "else", ROWS),
     ("vaults/shared_rows.rt", "part", "AllocError", "match Arc::new(alloc, rest): Err(refused)", SHARED),

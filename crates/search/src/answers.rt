@@ -117,22 +117,6 @@ pub(crate) fn hear_ask(
     Ok(())
 }
 
-// The role that the member of its base gives to the linked role at the node.
-fn given_role(graph: &Graph, node: u64, base: u32) -> Expr
-    requires entity { IsEntity graph.now.nodes base }
-    requires link { (r : Role) × (name : List ℕ) × IsNode graph.now node (exprs.Link r name) }
-    ensures { (r : Role) → (name : List ℕ) → IsNode graph.now node (exprs.Link r name)
-        → result ≡ exprs.Rol (record { owner = entity_at graph.now.nodes base; name = name }) }
-{
-    match graph.expr(node) {
-        NodeExpr::Link(_base, name) => Expr::Rol(Role {
-            owner: graph.entity(base),
-            name: *name,
-        }),
-        _ => unreachable!(),
-    }
-}
-
 // A linked role hears a member of its base; where that is new, it asks the member's role.
 #[inline(never)]
 fn told_base(found: &mut Findings, node: u64, base: u32) -> Result<(), AllocError>
@@ -144,11 +128,19 @@ fn told_base(found: &mut Findings, node: u64, base: u32) -> Result<(), AllocErro
     let NumberedMonitor::Link(told) = &mut found.monitors[node as usize] else {
         unreachable!()
     };
-    if !told.hear(base)? {
-        return Ok(());
+    match told.hear(base) {
+        Ok(true) => {
+            let graph = found.graph();
+            let NodeExpr::Link(_base, name) = graph.expr(node) else {
+                unreachable!()
+            };
+            let owner = graph.entity(base);
+            let role = Expr::Rol(Role { owner, name: *name });
+            ask(found, &role, Port::Via(base))
+        }
+        Ok(false) => Ok(()),
+        Err(refusal) => Err(refusal),
     }
-    let role = given_role(found.graph(), node, base);
-    ask(found, &role, Port::Via(base))
 }
 
 // An intersection hears that a part told the entity; with the last part it is a solution.
@@ -162,10 +154,11 @@ fn told_part(found: &mut Findings, node: u64, part: u8, who: u32) -> Result<(), 
     let NumberedMonitor::Meet(told) = &mut found.monitors[node as usize] else {
         unreachable!()
     };
-    if !told.part_told(part, who)? {
-        return Ok(());
+    match told.part_told(part, who) {
+        Ok(true) => solve(found, node, who, Reason::Parts),
+        Ok(false) => Ok(()),
+        Err(refusal) => Err(refusal),
     }
-    solve(found, node, who, Reason::Parts)
 }
 
 // The node is told on a port, by the node that it listens to, that the entity is a member.

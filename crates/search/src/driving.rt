@@ -10,24 +10,6 @@ impl Search {
     ghost use Rattle.search.specs.declared.queries.Need.{Need};
     ghost use Rattle.search.specs.declared.outcomes.Finished.{Finished};
 
-    // Makes the next step, the oldest signal, else the first waiting letter, and tells whether there was one to make.
-    #[inline(always)]
-    fn make_step(&mut self) -> bool
-        ensures made { result ≡ true → SignalsFirst self.old self.new
-            ⊎ ((number : ℕ) × (need : Need) × (told : Finished) × FinishesFirst self.old self.new number need told) }
-        ensures none { result ≡ false → IsQuiet self.old.stage × (self.new ≡ self.old) }
-    {
-        if self.signals() > 0 {
-            self.signal(0);
-            return true;
-        }
-        let Some((letter, held)) = self.take_held(0) else {
-            return false;
-        };
-        let _finished = self.receive_held(letter, &held, None);
-        true
-    }
-
     /// Carries the search on until nothing more of it can be: the oldest signal goes first, then the first waiting
     /// letter; the rows of a role that opens are looked up in the search's own snapshot. Letters that others hold stay with them.
     pub fn drive(&mut self)
@@ -39,7 +21,16 @@ impl Search {
         ensures question { SameQuestion self.old self.new }
         ensures settles { Settles self.old self.new }
     {
-        while self.make_step() {}
+        loop {
+            if self.signals() > 0 {
+                self.signal(0);
+            } else {
+                let Some((letter, held)) = self.take_held(0) else {
+                    break;
+                };
+                let _finished = self.receive_held(letter, &held, None);
+            }
+        }
         // Computes nothing: its contract says that what rests with no letter held has settled.
         let _settled = self.is_quiet();
     }

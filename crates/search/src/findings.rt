@@ -84,17 +84,6 @@ impl Findings {
     ghost use Rattle.search.specs.Answers.{progress};
     ghost use Rattle.search.specs.Net.{IsLoad, load_at};
 
-    // Where nothing was found yet. It takes no memory.
-    pub(crate) fn new(alloc: Global) -> Self
-        ensures { result ≡ progress empty_graph [] [] }
-    {
-        Findings {
-            graph: Graph::new(alloc),
-            monitors: Vec::new(alloc),
-            outs: VecDeque::new(alloc),
-        }
-    }
-
     // What was found is forgotten. Tables keep the room that a small search needs.
     pub(crate) fn forget(&mut self)
         ensures { self.new ≡ progress empty_graph [] [] }

@@ -38,16 +38,6 @@ impl Need {
     ghost use Rattle.std.specs.Prelude.{◌≡◌, option_copied};
     ghost use Rattle.search.specs.Finish.{need_for, right_hint};
 
-    /// The rows of the role, where there is one.
-    pub(crate) fn of(role: Option<&Role>) -> Need
-        ensures { result ≡ need_for (option_copied role.entry) }
-    {
-        match role {
-            Some(role) => Need::Rows(*role),
-            None => Need::Nothing,
-        }
-    }
-
     /// The hint that it asks for.
     #[inline(always)]
     pub fn look_up(&self, snapshot: &Snapshot) -> Hint

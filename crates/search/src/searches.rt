@@ -234,7 +234,11 @@ impl Search {
         let Some((number, held)) = self.take_held(place) else {
             return None;
         };
-        Some((number, Need::of(self.rows_for(&held))))
+        let need = match self.rows_for(&held) {
+            Some(role) => Need::Rows(*role),
+            None => Need::Nothing,
+        };
+        Some((number, need))
     }
 
     /// The role whose rows the letter in hand needs, if it needs any.
@@ -420,12 +424,12 @@ fn status_at(stage: &Stage, graph: &Graph, query: &Query) -> Status
             if !running.is_complete() {
                 return Status::Working;
             }
-            match query {
-                Query::Who(_role) => Status::Members,
-                Query::Ask(_role, who) => match graph.reason(0, who) {
-                    Some(_reason) => Status::Yes,
-                    None => Status::No,
-                },
+            let Query::Ask(_role, who) = query else {
+                return Status::Members;
+            };
+            match graph.reason(0, who) {
+                Some(_reason) => Status::Yes,
+                None => Status::No,
             }
         }
     }

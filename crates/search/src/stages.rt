@@ -1,7 +1,7 @@
 //! Where a search stands, and the steps of its computation.
 ghost use Rattle.std.specs.Prelude.{◌≡◌, ◌≤◌, ℕ, List, All, None, slice_get, OnOk, MatchOption};
 ghost use Rattle.scholten_core.specs.declared.letters.Letter.{Letter};
-ghost use Rattle.scholten_core.specs.Computation.{Computation, IsHeld, outstanding};
+ghost use Rattle.scholten_core.specs.Computation.{Computation, IsHeld};
 ghost use Rattle.scholten_core.specs.Step.{started};
 ghost use Rattle.search.specs.Net.{Said, IsLoad, outs_at};
 ghost use Rattle.search.specs.declared.letters.Load.TheVariants as Load;
@@ -40,18 +40,18 @@ const FEW_LETTERS: u64 = 32_768;
 impl Stage {
     // Whether it is that of a search that is completed, by few letters.
     pub(crate) fn is_small(&self) -> bool {
-        match self {
-            Stage::Running(running) => running.is_complete() && running.sent() <= FEW_LETTERS,
-            Stage::Spent | Stage::Broken => false,
-        }
+        let Stage::Running(running) = self else {
+            return false;
+        };
+        running.is_complete() && running.sent() <= FEW_LETTERS
     }
 
     // Whether its tables of letters serve another search.
     pub(crate) fn has_first_room(&self) -> bool {
-        match self {
-            Stage::Running(running) => running.has_first_room(),
-            Stage::Spent | Stage::Broken => false,
-        }
+        let Stage::Running(running) = self else {
+            return false;
+        };
+        running.has_first_room()
     }
 
     // The computation of a search begins, in the tables of letters that the one which stood here has left, if there are any.
@@ -151,27 +151,22 @@ fn rest(running: &mut Diffusion<Load<u32>>, found: &mut Findings, keeps_room: bo
     found.give_back();
 }
 
-// Gives back the memory that nothing takes, where nothing is outstanding. The tables of letters are spare from now on, where there
-// are no others.
+// Gives back the memory that nothing takes, where nothing is outstanding. The tables of letters, of a search by few of them, are
+// spare from now on, where there are no others.
 pub(crate) fn give_back(stage: &mut Stage, found: &mut Findings, spare: &mut Stage)
     ensures same { stage.new ≡ stage.old }
     ensures findings { (found.new.graph ≡ found.old.graph) × (found.new.monitors ≡ found.old.monitors) }
 {
     if let Stage::Running(running) = stage {
         if running.is_complete() {
-            leave_letters(running, spare);
+            if !spare.has_first_room()
+                && running.has_first_room()
+                && running.sent() <= FEW_LETTERS
+            {
+                *spare = Stage::Running(running.hand_over());
+            }
             rest(running, found, false);
         }
-    }
-}
-
-// The tables of letters, of a search by few of them, are spare from now on, where there are no others.
-fn leave_letters(running: &mut Diffusion<Load<u32>>, spare: &mut Stage)
-    requires { outstanding running.old ≡ 0 }
-    ensures { running.new ≡ running.old }
-{
-    if !spare.has_first_room() && running.has_first_room() && running.sent() <= FEW_LETTERS {
-        *spare = Stage::Running(running.hand_over());
     }
 }
 

@@ -2,7 +2,9 @@
 
 use crate::findings::Findings;
 use crate::stages::Stage;
+use cred_graph::Graph;
 use std::alloc::Global;
+use std::collections::VecDeque;
 use std::marker::Model;
 
 /// Empty tables of a search with the memory that they have taken, as a small search takes it and no more. A search that is
@@ -30,7 +32,11 @@ impl Tables {
     /// Tables that have taken no memory.
     pub fn new(alloc: Global) -> Tables {
         Tables {
-            found: Findings::new(alloc),
+            found: Findings {
+                graph: Graph::new(alloc),
+                monitors: Vec::new(alloc),
+                outs: VecDeque::new(alloc),
+            },
             stage: Stage::Spent,
         }
     }

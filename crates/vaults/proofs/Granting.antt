@@ -1,5 +1,5 @@
 -- Who has granted whom and whose vaults are public, as a book keeps it, and the names that a tenant reads.
-use Rattle.std.proofs.Common.{ℕ, Bool, true, false, cond, not, List, [], ◌∷◌, ◌++◌, ◌≡◌, ◌∙◌, ◌||◌, ◌&&◌, sym, ap, refl, subst, map, Option, Some, None, unwrap_or, ◌⊎◌, inl, inr}
+use Rattle.std.proofs.Common.{ℕ, Bool, true, false, cond, not, List, [], ◌∷◌, ◌++◌, ◌≡◌, ◌∙◌, ◌||◌, ◌&&◌, sym, ap, refl, subst, map, Option, Some, None, unwrap_or}
 use Rattle.std.specs.List.{AllByRecursion}
 use Rattle.std.specs.BTreeMap.{BTreeMap, get}
 use Rattle.std.specs.BTreeSet.{insert_key}
@@ -7,7 +7,6 @@ use Rattle.std.specs.Ordering.{eq_by_cmp}
 use Rattle.std.proofs.Math.Bool.{or_assoc}
 use Rattle.std.proofs.lemmas.List.Elements.{recursion_from_All}
 use Rattle.names.specs.Name.{is_same, name_order}
-use Rattle.credential_text.specs.declared.credentials.Credential.{Credential}
 use Rattle.vaults.specs.declared.changes.Change.{Change}
 use Rattle.vaults.specs.declared.changes.Change.TheVariants.{Upload, Withdraw, Grant, Revoke, GrantAll, RevokeAll}
 use Rattle.vaults.specs.declared.changes.Entry.{Entry}
@@ -16,7 +15,7 @@ use Rattle.vaults.specs.InOrder.{without}
 use Rattle.vaults.specs.declared.marks.Seen.{Seen}
 use Rattle.vaults.specs.Journal.{gift, gives_same, granted, is_public, marked_names, names_in}
 use Rattle.vaults.specs.Owed.{gives}
-use Rattle.vaults.specs.Book.{early_refusal, is_granting, AreGranting, KeepsGrant, SameGranting, is_listed, ArePublic, KeepsPublic, SamePublic}
+use Rattle.vaults.specs.Book.{early_refusal, is_granting, AreGranting, KeepsGrant, SameGranting, is_listed, ArePublic, KeepsPublic, KeepsGift, SameGifts, EndsGift}
 use Rattle.vaults.specs.Merge.{AreMerged}
 use Rattle.vaults.proofs.Elements.{has, has-insert_key, has-without, same_in_order, tied_both_ways}
 use Rattle.names.proofs.SameNames.{is_same_tied, same_from_is_same}
@@ -31,6 +30,10 @@ and_false false x y = refl
 and_true : (a : Bool) (x y : Bool) → cond (a && true) x y ≡ cond a x y
 and_true true x y = refl
 and_true false x y = refl
+
+never : (a : Bool) → (a && false) ≡ true → ⊥
+never true both = cc
+never false both = cc
 
 -- one reader's list is written, with the owner in it or out of it
 granting_written : (owner reader : List ℕ) (b : Bool) (names : List (List ℕ)) (old new : BTreeMap (List ℕ) (List (List ℕ))) →
@@ -89,30 +92,95 @@ pub public_stays : (who : List ℕ) (change : Change) (public : List (List ℕ))
 public_stays who change public none owner =
     sym (ap (λ (b : Bool). cond (is_same who owner && b) (gives change) (is_listed public owner)) none ∙ and_false (is_same who owner) (gives change) (is_listed public owner))
 
--- an upload or a withdrawal concerns no reader, and isn't for all
-pub of_rows : (change : Change) → ((c : Credential) × (change ≡ Upload c)) ⊎ ((c : Credential) × (change ≡ Withdraw c)) →
-    ((reader : List ℕ) → gives_same (gift change) (Grant reader) ≡ false) × (gives_same (gift change) GrantAll ≡ false)
-of_rows change (inl uploads) = (λ reader. ap (λ (x : Change). gives_same (gift x) (Grant reader)) uploads.1, ap (λ (x : Change). gives_same (gift x) GrantAll) uploads.1)
-of_rows change (inr withdraws) = (λ reader. ap (λ (x : Change). gives_same (gift x) (Grant reader)) withdraws.1, ap (λ (x : Change). gives_same (gift x) GrantAll) withdraws.1)
+-- a grant to a reader is kept
+pub reader_given : (who : List ℕ) (change : Change) (reader : List ℕ) (old new : BTreeMap (List ℕ) (List (List ℕ))) (public : List (List ℕ)) →
+    change ≡ Grant reader → KeepsGrant who (Grant reader) old new → KeepsGift who change old new public public
+reader_given who change reader old new public is adds = (
+  subst (λ (x : Change). KeepsGrant who x old new) (sym is) adds,
+  public_stays who change public (ap (λ (x : Change). gives_same (gift x) GrantAll) is),
+)
 
--- a first grant that is taken back leaves all as it was
-pub granting_undone : (owner reader : List ℕ) (old added dropped : BTreeMap (List ℕ) (List (List ℕ))) → is_granting old owner reader ≡ false →
-    KeepsGrant owner (Grant reader) old added → KeepsGrant owner (Revoke reader) added dropped → SameGranting old dropped
-granting_undone owner reader old added dropped first adds drops o r = drops o r ∙ by (is_same owner o) refl (is_same reader r) refl
-  where
-    by : (a : Bool) → is_same owner o ≡ a → (b : Bool) → is_same reader r ≡ b → cond (a && b) false (is_granting added o r) ≡ is_granting old o r
-    by true one true same =
-        sym first ∙ ap (λ (n : List ℕ). is_granting old n reader) (same_from_is_same owner o one) ∙ ap (λ (n : List ℕ). is_granting old o n) (same_from_is_same reader r same)
-    by true one false apart =
-        adds o r ∙ ap (λ (b : Bool). cond (is_same owner o && b) true (is_granting old o r)) apart ∙ and_false (is_same owner o) true (is_granting old o r)
-    by false other b same = adds o r ∙ ap (λ (a : Bool). cond (a && is_same reader r) true (is_granting old o r)) other
+-- public reading is kept
+pub all_given : (who : List ℕ) (change : Change) (granting : BTreeMap (List ℕ) (List (List ℕ))) (old new : List (List ℕ)) →
+    change ≡ GrantAll → KeepsPublic who GrantAll old new → KeepsGift who change granting granting old new
+all_given who change granting old new is adds = (
+  granting_stays who change granting (λ reader. ap (λ (x : Change). gives_same (gift x) (Grant reader)) is),
+  subst (λ (x : Change). KeepsPublic who x old new) (sym is) adds,
+)
 
-pub public_undone : (who : List ℕ) (old added dropped : List (List ℕ)) → is_listed old who ≡ false → KeepsPublic who GrantAll old added → KeepsPublic who RevokeAll added dropped → SamePublic old dropped
-public_undone who old added dropped first adds drops owner = drops owner ∙ by (is_same who owner) refl
+-- a reader's grant has ended
+pub reader_ended : (who : List ℕ) (change : Change) (reader : List ℕ) (old new : BTreeMap (List ℕ) (List (List ℕ))) (public : List (List ℕ)) →
+    gift change ≡ Grant reader → KeepsGrant who (Revoke reader) old new → EndsGift who change old new public public
+reader_ended who change reader old new public is drops = (
+  λ owner other. drops owner other ∙ ap (λ (x : Change). cond (is_same who owner && gives_same x (Grant other)) false (is_granting old owner other)) (sym is),
+  λ owner. sym (ap (λ (x : Change). cond (is_same who owner && gives_same x GrantAll) false (is_listed public owner)) is ∙ and_false (is_same who owner) false (is_listed public owner)),
+)
+
+-- public reading has ended
+pub all_ended : (who : List ℕ) (change : Change) (granting : BTreeMap (List ℕ) (List (List ℕ))) (old new : List (List ℕ)) →
+    gift change ≡ GrantAll → KeepsPublic who RevokeAll old new → EndsGift who change granting granting old new
+all_ended who change granting old new is drops = (
+  λ owner other. sym (ap (λ (x : Change). cond (is_same who owner && gives_same x (Grant other)) false (is_granting granting owner other)) is ∙ and_false (is_same who owner) false (is_granting granting owner other)),
+  λ owner. drops owner ∙ ap (λ (x : Change). cond (is_same who owner && gives_same x GrantAll) false (is_listed old owner)) (sym is),
+)
+
+-- what is taken back is kept where it has ended
+pub gift_ended : (who : List ℕ) (change : Change) (old given new : BTreeMap (List ℕ) (List (List ℕ))) (public listed after : List (List ℕ)) → gives change ≡ false →
+    SameGifts old given public listed → EndsGift who change given new listed after → KeepsGift who change old new public after
+gift_ended who change old given new public listed after takes same ends = (
+  λ owner reader. ends.0 owner reader
+      ∙ ap (λ (b : Bool). cond (is_same who owner && gives_same (gift change) (Grant reader)) b (is_granting given owner reader)) (sym takes)
+      ∙ ap (cond (is_same who owner && gives_same (gift change) (Grant reader)) (gives change)) (same.0 owner reader),
+  λ owner. ends.1 owner
+      ∙ ap (λ (b : Bool). cond (is_same who owner && gives_same (gift change) GrantAll) b (is_listed listed owner)) (sym takes)
+      ∙ ap (cond (is_same who owner && gives_same (gift change) GrantAll) (gives change)) (same.1 owner),
+)
+
+-- of one owner and one reader: what wasn't so before, became so and is so no longer is as it was
+undone : (concerned given old added dropped : Bool) → given ≡ true → (concerned ≡ true → old ≡ false) →
+    added ≡ cond concerned given old → dropped ≡ cond concerned false added → dropped ≡ old
+undone true given old added dropped gives first adds drops = drops ∙ sym (first refl)
+undone false given old added dropped gives first adds drops = drops ∙ adds
+
+-- a first gift that is taken back leaves all as it was
+pub gift_undone : (who : List ℕ) (change : Change) (old given new : BTreeMap (List ℕ) (List (List ℕ))) (public listed after : List (List ℕ)) → gives change ≡ true →
+    ((reader : List ℕ) → change ≡ Grant reader → is_granting old who reader ≡ false) → (change ≡ GrantAll → is_listed public who ≡ false) →
+    KeepsGift who change old given public listed → EndsGift who change given new listed after → SameGifts old new public after
+gift_undone who change old given new public listed after gives_it first first_for_all keeps ends = (
+  λ owner reader. undone _ (gives change) (is_granting old owner reader) (is_granting given owner reader) (is_granting new owner reader) gives_it
+      (no_reader change gives_it first owner reader) (keeps.0 owner reader) (ends.0 owner reader),
+  λ owner. undone _ (gives change) (is_listed public owner) (is_listed listed owner) (is_listed after owner) gives_it
+      (not_all change gives_it first_for_all owner) (keeps.1 owner) (ends.1 owner),
+)
   where
-    by : (a : Bool) → is_same who owner ≡ a → cond (a && true) false (is_listed added owner) ≡ is_listed old owner
-    by true one = sym first ∙ ap (is_listed old) (same_from_is_same who owner one)
-    by false other = adds owner ∙ ap (λ (a : Bool). cond (a && true) true (is_listed old owner)) other
+    of_reader : (reader owner other : List ℕ) → is_granting old who reader ≡ false → (a : Bool) → is_same who owner ≡ a → (b : Bool) → is_same reader other ≡ b →
+        (a && b) ≡ true → is_granting old owner other ≡ false
+    of_reader reader owner other first true one true same both =
+        sym (ap (λ (n : List ℕ). is_granting old n reader) (same_from_is_same who owner one) ∙ ap (is_granting old owner) (same_from_is_same reader other same)) ∙ first
+    of_reader reader owner other first true one false apart both = cc
+    of_reader reader owner other first false apart b same both = cc
+
+    no_reader : (x : Change) → gives x ≡ true → ((reader : List ℕ) → x ≡ Grant reader → is_granting old who reader ≡ false) → (owner other : List ℕ) →
+        (is_same who owner && gives_same (gift x) (Grant other)) ≡ true → is_granting old owner other ≡ false
+    no_reader (Upload c) given first owner other concerned = absurd (never (is_same who owner) concerned)
+    no_reader (Grant reader) given first owner other concerned = of_reader reader owner other (first reader refl) (is_same who owner) refl (is_same reader other) refl concerned
+    no_reader GrantAll given first owner other concerned = absurd (never (is_same who owner) concerned)
+    no_reader (Withdraw c) given first owner other concerned = cc
+    no_reader (Revoke reader) given first owner other concerned = cc
+    no_reader RevokeAll given first owner other concerned = cc
+
+    of_all : (owner : List ℕ) → is_listed public who ≡ false → (a : Bool) → is_same who owner ≡ a → (a && true) ≡ true → is_listed public owner ≡ false
+    of_all owner first true one both = sym (ap (is_listed public) (same_from_is_same who owner one)) ∙ first
+    of_all owner first false apart both = cc
+
+    not_all : (x : Change) → gives x ≡ true → (x ≡ GrantAll → is_listed public who ≡ false) → (owner : List ℕ) →
+        (is_same who owner && gives_same (gift x) GrantAll) ≡ true → is_listed public owner ≡ false
+    not_all (Upload c) given first owner concerned = absurd (never (is_same who owner) concerned)
+    not_all (Grant reader) given first owner concerned = absurd (never (is_same who owner) concerned)
+    not_all GrantAll given first owner concerned = of_all owner (first refl) (is_same who owner) refl concerned
+    not_all (Withdraw c) given first owner concerned = cc
+    not_all (Revoke reader) given first owner concerned = cc
+    not_all RevokeAll given first owner concerned = cc
 
 -- lists that are looked up alike
 pub same_granting : (old new : BTreeMap (List ℕ) (List (List ℕ))) → ((reader : List ℕ) → get name_order new reader ≡ get name_order old reader) → SameGranting old new

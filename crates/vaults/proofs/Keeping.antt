@@ -1,12 +1,16 @@
 -- Entries as bytes: what fits, one entry more, and the first one read again.
-use Rattle.std.proofs.Common.{ℕ, ◌<◌, ◌≤◌, ◌^◌, List, [], ◌∷◌, ◌++◌, ◌≡◌, ◌∙◌, sym, ap, refl, subst, length, length-append, append_assoc, arith, Option, Some, None, MatchOption}
+use Rattle.std.proofs.Common.{ℕ, ◌<◌, ◌≤◌, ◌^◌, List, [], ◌∷◌, ◌++◌, ◌≡◌, ◌∙◌, sym, ap, refl, subst, length, length-append, append_assoc, arith, ◌-◌, Option, Some, None, MatchOption, slice_index_or, take, drop}
 use Rattle.std.specs.List.{AllByRecursion}
 use Rattle.std.proofs.lemmas.Bool.{leb-true}
-use Rattle.std.proofs.lemmas.List.{append-nil}
+use Rattle.std.proofs.lemmas.List.{append-nil, take_all}
 use Rattle.std.proofs.lemmas.List.Concat.{flat_map-append}
 use Rattle.names.specs.Name.{IsName}
 use Rattle.names.proofs.Avoiding.{NameParts, name_parts}
-use Rattle.credential_text.proofs.Canonical.{canonical_is_short}
+use Rattle.credential_text.specs.declared.credentials.Credential.{Credential}
+use Rattle.credential_text.specs.Credential.{IsCredential}
+use Rattle.credential_text.specs.Spelling.{Spells, canonical}
+use Rattle.credential_text.proofs.Canonical.{canonical_is_short, canonical_spells}
+use Rattle.credential_text.proofs.Showing.{no_text_spells_two}
 use Rattle.vaults.specs.declared.changes.Change.{Change}
 use Rattle.vaults.specs.declared.changes.Change.TheVariants.{Upload, Withdraw, Grant, Revoke, GrantAll, RevokeAll}
 use Rattle.vaults.specs.declared.changes.Entry.{Entry}
@@ -54,35 +58,75 @@ kept_push bytes new tenant subject kind es who change kept named names is_kind i
       ∙ sym (flat_map-append entry_bytes es (record { tenant = who; change = change } ∷ [])),
 )
 
--- what stands behind the kind of an entry
-pub behind_kind : (e : Entry) (bytes behind rest : List ℕ) (kind : ℕ) → bytes ≡ kind ∷ behind → bytes ≡ entry_bytes e ++ rest →
-    (kind ≡ kind_of e.change) × (behind ≡ framed e.tenant ++ (framed (subject_of e.change) ++ rest))
+-- the first byte of an entry is its kind, and behind that stand its tenant and what it is about
+pub behind_kind : (e : Entry) (bytes rest : List ℕ) → bytes ≡ entry_bytes e ++ rest →
+    (slice_index_or bytes 0 0 ≡ kind_of e.change)
+    × (take (length bytes - 1) (drop 1 bytes) ≡ framed e.tenant ++ (framed (subject_of e.change) ++ rest))
 unfolding entry_bytes
-behind_kind e bytes behind rest kind cut same =
-    let whole : kind ∷ behind ≡ kind_of e.change ∷ ((framed e.tenant ++ framed (subject_of e.change)) ++ rest) = sym cut ∙ same in
-    let first : kind ≡ kind_of e.change = cc in
-    let others : behind ≡ (framed e.tenant ++ framed (subject_of e.change)) ++ rest = cc in
-    (first, others ∙ append_assoc (framed e.tenant) (framed (subject_of e.change)) rest)
+behind_kind e bytes rest same =
+    let others : List ℕ = framed e.tenant ++ (framed (subject_of e.change) ++ rest) in
+    let whole : bytes ≡ kind_of e.change ∷ others =
+    same ∙ ap (λ (bs : List ℕ). kind_of e.change ∷ bs) (append_assoc (framed e.tenant) (framed (subject_of e.change)) rest) in (
+      ap (λ (bs : List ℕ). slice_index_or bs 0 0) whole,
+      ap (λ (bs : List ℕ). take (length bs - 1) (drop 1 bs)) whole
+          ∙ take_all (length (kind_of e.change ∷ others) - 1) others (omega arith),
+    )
 
 -- no entry has no bytes
-pub some_bytes : (e : Entry) (bytes rest : List ℕ) → length bytes ≡ 0 → bytes ≡ entry_bytes e ++ rest → ⊥
+pub some_bytes : (e : Entry) (bytes rest : List ℕ) → length bytes < 1 → bytes ≡ entry_bytes e ++ rest → ⊥
 unfolding entry_bytes
 some_bytes e bytes rest none same = let long : length bytes ≡ length (entry_bytes e ++ rest) = ap length same in omega arith
 
--- what is read of bytes is the first entry that they keep
-pub kept_first : {R : Type 0} (now : R → List ℕ) (bytes : List ℕ) (kept : Kept bytes) (read : Option (Entry × R)) (entry : Entry) (rest : R) → read ≡ Some (entry, rest) →
-    (bytes ≡ [] → read ≡ None) →
-    ((e : Entry) (behind : List ℕ) → IsNamed e → bytes ≡ entry_bytes e ++ behind → MatchOption read ⊥ (λ found. (found.0 ≡ e) × (now found.1 ≡ behind))) →
-    (es : List Entry) × (kept.0 ≡ entry ∷ es) × AreKept (now rest) es
-kept_first now bytes ([], kept) read entry rest is nothing reads = let none : read ≡ None = nothing kept.1 in cc
-kept_first {R} now bytes (e ∷ es, kept) read entry rest is nothing reads =
-    let found : (entry ≡ e) × (now rest ≡ journal_bytes es) =
-    subst (λ (o : Option (Entry × R)). MatchOption o ⊥ (λ found. (found.0 ≡ e) × (now found.1 ≡ journal_bytes es))) is (reads e (journal_bytes es) kept.0.0 kept.1) in
-    (es, ap (λ (x : Entry). x ∷ es) (sym found.0), (kept.0.1, found.1))
+-- what was read of a text: a credential that it spells, a reader that it names, or nothing
+abbrev pub IsReadOf : Change → List ℕ → Type 0
+IsReadOf (Upload c) text = Spells text c
+IsReadOf (Withdraw c) text = Spells text c
+IsReadOf (Grant reader) text = reader ≡ text
+IsReadOf (Revoke reader) text = reader ≡ text
+IsReadOf GrantAll text = Unit {0}
+IsReadOf RevokeAll text = Unit {0}
 
--- where nothing is read there is none
-pub kept_none : {R : Type 0} (now : R → List ℕ) (bytes : List ℕ) (kept : Kept bytes) (read : Option (Entry × R)) → read ≡ None →
-    ((e : Entry) (behind : List ℕ) → IsNamed e → bytes ≡ entry_bytes e ++ behind → MatchOption read ⊥ (λ found. (found.0 ≡ e) × (now found.1 ≡ behind))) → kept.0 ≡ []
-kept_none now bytes ([], kept) read is reads = refl
-kept_none {R} now bytes (e ∷ es, kept) read is reads =
-    absurd (subst (λ (o : Option (Entry × R)). MatchOption o ⊥ (λ found. (found.0 ≡ e) × (now found.1 ≡ journal_bytes es))) is (reads e (journal_bytes es) kept.0.0 kept.1))
+one_credential : (text : List ℕ) (c d : Credential) → IsCredential d → Spells text c → text ≡ canonical d → c ≡ d
+one_credential text c d named read is =
+    no_text_spells_two text c d read (subst (λ (t : List ℕ). Spells t d) (sym is) (canonical_spells d named))
+
+-- of the kind and the text of a change nothing else is read
+pub one_change : (read change : Change) (text : List ℕ) → HasNames change → kind_of read ≡ kind_of change → IsReadOf read text → text ≡ subject_of change →
+    read ≡ change
+one_change (Upload c) (Upload d) text named kind read is = ap Upload (one_credential text c d named read is)
+one_change (Upload c) _ text named kind read is = absurd (omega arith)
+one_change (Withdraw c) (Withdraw d) text named kind read is = ap Withdraw (one_credential text c d named read is)
+one_change (Withdraw c) _ text named kind read is = absurd (omega arith)
+one_change (Grant r) (Grant s) text named kind read is = ap Grant (read ∙ is)
+one_change (Grant r) _ text named kind read is = absurd (omega arith)
+one_change (Revoke r) (Revoke s) text named kind read is = ap Revoke (read ∙ is)
+one_change (Revoke r) _ text named kind read is = absurd (omega arith)
+one_change GrantAll GrantAll text named kind read is = refl
+one_change GrantAll _ text named kind read is = absurd (omega arith)
+one_change RevokeAll RevokeAll text named kind read is = refl
+one_change RevokeAll _ text named kind read is = absurd (omega arith)
+
+-- what is cut off bytes and read is the first entry that they keep
+pub kept_first : {C : Type 0} (bytes : List ℕ) (kept : Kept bytes) (found : C) (kind : ℕ) (tenant subject behind : List ℕ) (read : Option Entry) →
+    (bytes ≡ [] → Some found ≡ None) →
+    ((e : Entry) (rest : List ℕ) → bytes ≡ entry_bytes e ++ rest →
+    (kind ≡ kind_of e.change) × (tenant ≡ e.tenant) × (subject ≡ subject_of e.change) × (behind ≡ rest)) →
+    ((e : Entry) → IsNamed e → kind ≡ kind_of e.change → tenant ≡ e.tenant → subject ≡ subject_of e.change → read ≡ Some e) →
+    (e : Entry) × (es : List Entry) × (read ≡ Some e) × (kept.0 ≡ e ∷ es) × AreKept behind es
+kept_first bytes ([], kept) found kind tenant subject behind read nothing cut reads = let none : Some found ≡ None = nothing kept.1 in cc
+kept_first bytes (e ∷ es, kept) found kind tenant subject behind read nothing cut reads =
+    let parts : (kind ≡ kind_of e.change) × (tenant ≡ e.tenant) × (subject ≡ subject_of e.change) × (behind ≡ journal_bytes es) =
+    cut e (journal_bytes es) kept.1 in
+    (e, es, reads e kept.0.0 parts.0 parts.1 parts.2, refl, (kept.0.1, parts.3))
+
+-- what is read is the first of the entries, and what is left are the others
+pub told_next : (old new : List Entry) (read : Option Entry) (e : Entry) (es : List Entry) → read ≡ Some e → old ≡ e ∷ es → es ≡ new →
+    MatchOption read ((old ≡ []) × (new ≡ [])) (λ entry. old ≡ entry ∷ new)
+told_next old new read e es is first rest =
+    subst (λ (o : Option Entry). MatchOption o ((old ≡ []) × (new ≡ [])) (λ entry. old ≡ entry ∷ new)) (sym is)
+    (first ∙ ap (λ (l : List Entry). e ∷ l) rest)
+
+-- where nothing can be cut off there is none
+pub kept_none : (bytes : List ℕ) (kept : Kept bytes) → ((e : Entry) (rest : List ℕ) → bytes ≡ entry_bytes e ++ rest → ⊥) → kept.0 ≡ []
+kept_none bytes ([], kept) none = refl
+kept_none bytes (e ∷ es, kept) none = absurd (none e (journal_bytes es) kept.1)

@@ -1,5 +1,5 @@
 -- What a book keeps beside its journal, which is what contracts see of it.
-use Rattle.std.specs.Prelude.{ℕ, Bool, List, [], ◌≡◌, ◌&&◌, Option, Some, None, unwrap_or, if◌then◌else◌}
+use Rattle.std.specs.Prelude.{ℕ, Bool, false, List, [], ◌≡◌, ◌&&◌, Option, Some, None, unwrap_or, if◌then◌else◌}
 use Rattle.std.specs.List.{list_any}
 use Rattle.std.specs.Ordering.{eq_by_cmp}
 use Rattle.std.specs.BTreeMap.{BTreeMap, get}
@@ -72,3 +72,22 @@ KeepsPublic who change old new = (owner : List ℕ) → is_listed new owner
 -- the same vaults are public
 abbrev pub SamePublic : List (List ℕ) → List (List ℕ) → Type 0
 SamePublic old new = (owner : List ℕ) → is_listed new owner ≡ is_listed old owner
+
+-- the change is kept in both
+abbrev pub KeepsGift : List ℕ → Change → BTreeMap (List ℕ) (List (List ℕ)) → BTreeMap (List ℕ) (List (List ℕ)) →
+    List (List ℕ) → List (List ℕ) → Type 0
+KeepsGift who change old new public listed = KeepsGrant who change old new × KeepsPublic who change public listed
+
+-- both are as they were
+abbrev pub SameGifts : BTreeMap (List ℕ) (List (List ℕ)) → BTreeMap (List ℕ) (List (List ℕ)) →
+    List (List ℕ) → List (List ℕ) → Type 0
+SameGifts old new public listed = SameGranting old new × SamePublic public listed
+
+-- what the change gives or takes back isn't kept of the owner any longer, and all else is as it was
+abbrev pub EndsGift : List ℕ → Change → BTreeMap (List ℕ) (List (List ℕ)) → BTreeMap (List ℕ) (List (List ℕ)) →
+    List (List ℕ) → List (List ℕ) → Type 0
+EndsGift who change old new public listed =
+    ((owner reader : List ℕ) → is_granting new owner reader
+    ≡ (if is_same who owner && gives_same (gift change) (Grant reader) then false else is_granting old owner reader))
+    × ((owner : List ℕ) → is_listed listed owner
+    ≡ (if is_same who owner && gives_same (gift change) GrantAll then false else is_listed public owner))

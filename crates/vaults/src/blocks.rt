@@ -49,7 +49,7 @@ impl Block {
     pub fn of(alloc: Global, credential: &Credential) -> Result<Block, AllocError>
         ensures { IfOk result (λ b. b ≡ credential.now ∷ []) }
     {
-        let row = Row::of(alloc, credential)?;
+        let row = Row::of(alloc, None, credential)?;
         let mut list = Vec::new(alloc);
         list.push(row)?;
         let rows = Arc::new(alloc, list)?;
@@ -93,9 +93,7 @@ impl Block {
         match place_to_put(self.rows(), credential) {
             Ok(_) => Ok(false),
             Err(place) => {
-                let neighbour = &self.rows()[place.saturating_sub(1)];
-                let row = neighbour.beside(*self.rows.allocator(), credential)?;
-                insert_row(&mut self.rows, place, row)?;
+                insert_row(&mut self.rows, place, credential)?;
                 Ok(true)
             }
         }

@@ -6,8 +6,8 @@ ghost use Rattle.vaults.specs.Journal.{entries_of, holds, granted, is_public, re
 ghost use Rattle.vaults.specs.Journal.{vault, grant_count, marked_names, uploaded};
 ghost use Rattle.vaults.specs.Page.{page_at, page_fault, is_due};
 ghost use Rattle.vaults.specs.Version.{version_rows};
-ghost use Rattle.vaults.specs.Book.{is_granting, is_listed, KeepsChange, IsUnchanged, KeepsGrant, SameGranting, KeepsPublic, SamePublic};
-ghost use Rattle.vaults.specs.Book.{early_refusal};
+ghost use Rattle.vaults.specs.Book.{early_refusal, is_granting, is_listed, KeepsChange, IsUnchanged, KeepsGift, SameGifts, EndsGift};
+ghost use Rattle.vaults.specs.Owed.{gives};
 ghost use Rattle.vaults.specs.declared.changes.Change.TheVariants.{Grant, Revoke, GrantAll};
 
 use crate::changes::Change;
@@ -267,74 +267,68 @@ fn keep(
     requires first { (reader : List ℕ) → change.now ≡ Grant reader → is_granting granting.old who reader ≡ false }
     requires first_for_all { change.now ≡ GrantAll → is_listed public.old who ≡ false }
     ensures kept { OnOk result (KeepsChange who change.now pages.old pages.new) }
-    ensures grant { OnOk result (KeepsGrant who change.now granting.old granting.new) }
-    ensures public { OnOk result (KeepsPublic who change.now public.old public.new) }
+    ensures gift { OnOk result (KeepsGift who change.now granting.old granting.new public.old public.new) }
     ensures due { OnOk result (is_due change.now (page_at pages.old who).rows ≡ true) }
     ensures count { IfOk result (λ n. n ≡ (page_at pages.old who).changes + 1) }
     ensures refused { IfErr result (λ f. f ≡ page_fault change.now (page_at pages.old who).rows) }
     ensures unchanged { OnErr result (IsUnchanged pages.old pages.new) }
-    ensures same_granting { OnErr result (SameGranting granting.old granting.new) }
-    ensures same_public { OnErr result (SamePublic public.old public.new) }
+    ensures same_gifts { OnErr result (SameGifts granting.old granting.new public.old public.new) }
     ensures revocable { revokes change.now ≡ true → IsSome (get name_order pages.old who) → IsOk result }
 {
-    match change {
-        Change::Grant(reader) => {
-            add_granting(alloc, granting, who, *reader)?;
-            let kept = keep_on_page(alloc, pages, who, change);
-            if kept.is_err() {
-                drop_granting(granting, who, *reader);
-            }
-            kept
-        }
-        Change::Revoke(reader) => {
-            let count = keep_on_page(alloc, pages, who, change)?;
-            drop_granting(granting, who, *reader);
-            Ok(count)
-        }
-        Change::GrantAll => {
-            public.add(&who)?;
-            let counted = keep_on_page(alloc, pages, who, change);
-            if counted.is_err() {
-                public.remove(&who);
-            }
-            counted
-        }
-        Change::RevokeAll => {
-            let count = keep_on_page(alloc, pages, who, change)?;
-            public.remove(&who);
-            Ok(count)
-        }
-        Change::Upload(_) | Change::Withdraw(_) => keep_on_page(alloc, pages, who, change),
+    add_gift(alloc, granting, public, who, change)?;
+    let kept = keep_on_page(alloc, pages, who, change);
+    // A gift that wasn't kept ends again, as does one that is taken back where that was kept.
+    if kept.is_err() == change.gives() {
+        end_gift(granting, public, who, change);
     }
+    kept
 }
 
-/// Keeps that the owner has granted the reader.
-fn add_granting(
+/// Keeps for whom the change gives reading, if it gives it, that the owner has given it.
+fn add_gift(
     alloc: Global,
     granting: &mut BTreeMap<Entity, NameSet>,
+    public: &mut NameSet,
     owner: Entity,
-    reader: Entity,
+    change: &Change,
 ) -> Result<(), AllocError>
-    ensures kept { OnOk result (KeepsGrant owner (Grant reader) granting.old granting.new) }
-    ensures unchanged { OnErr result (SameGranting granting.old granting.new) }
+    ensures kept { OnOk result (gives change.now ≡ true → KeepsGift owner change.now granting.old granting.new public.old public.new) }
+    ensures nothing { gives change.now ≡ false → SameGifts granting.old granting.new public.old public.new }
+    ensures unchanged { OnErr result (SameGifts granting.old granting.new public.old public.new) }
+    ensures growth { OnErr result ((gives change.now ≡ true) × (uploaded change.now ≡ None)) }
 {
-    match granting.get_mut(&reader) {
-        Some(owners) => owners.add(&owner),
-        None => {
-            let mut owners = NameSet::new(alloc);
-            owners.add(&owner)?;
-            granting.insert(reader, owners)?;
-            Ok(())
-        }
+    match change {
+        Change::Grant(reader) => match granting.get_mut(reader) {
+            Some(owners) => owners.add(&owner),
+            None => {
+                let mut owners = NameSet::new(alloc);
+                owners.add(&owner)?;
+                granting.insert(*reader, owners)?;
+                Ok(())
+            }
+        },
+        Change::GrantAll => public.add(&owner),
+        _ => Ok(()),
     }
 }
 
-/// Keeps that the owner has revoked the reader.
-fn drop_granting(granting: &mut BTreeMap<Entity, NameSet>, owner: Entity, reader: Entity)
-    ensures { KeepsGrant owner (Revoke reader) granting.old granting.new }
+/// Keeps for whom the change gives reading or takes it back that the owner gives it no longer.
+fn end_gift(
+    granting: &mut BTreeMap<Entity, NameSet>,
+    public: &mut NameSet,
+    owner: Entity,
+    change: &Change,
+)
+    ensures { EndsGift owner change.now granting.old granting.new public.old public.new }
 {
-    if let Some(owners) = granting.get_mut(&reader) {
-        owners.remove(&owner);
+    match change {
+        Change::Grant(reader) | Change::Revoke(reader) => {
+            if let Some(owners) = granting.get_mut(reader) {
+                owners.remove(&owner);
+            }
+        }
+        Change::GrantAll | Change::RevokeAll => public.remove(&owner),
+        Change::Upload(_) | Change::Withdraw(_) => {}
     }
 }
 

@@ -1,15 +1,11 @@
 ghost use Rattle.std.specs.Prelude.{◌≡◌, ℕ, List, [], ◌∷◌, ◌++◌, ◌<◌, ◌^◌, IfOk, IfErr, OnErr, Some, None, MatchOption, length};
-ghost use Rattle.credential_text.specs.declared.credentials.Credential.{Credential as AnyCredential};
-ghost use Rattle.credential_text.specs.Credential.{IsCredential};
-ghost use Rattle.credential_text.specs.Spelling.{canonical};
-ghost use Rattle.vaults.specs.declared.changes.Change.{Change as AnyChange};
 ghost use Rattle.vaults.specs.declared.changes.Entry.{Entry as AnyEntry};
-ghost use Rattle.vaults.specs.Kept.{Kept, AreKept, kind_of, subject_of, framed, entry_bytes, HasNames, IsNamed};
+ghost use Rattle.vaults.specs.Kept.{Kept, AreKept, kind_of, subject_of, framed, entry_bytes, IsNamed};
 ghost use Rattle.vaults.specs.KeptOnce.{kept_prop};
 
 use crate::changes::{Change, Entry};
 use crate::faults::VaultFault;
-use credential_text::{Credential, read_credential};
+use credential_text::read_credential;
 use names::Entity;
 use std::alloc::{AllocError, Global};
 use std::marker::Model;
@@ -31,6 +27,15 @@ impl<'a> Model for Entries<'a> {
     ghost view = { λ entries. entries.kept.0 };
 }
 
+/// An entry as it is kept, and the bytes behind it.
+#[derive(Drop)]
+struct Cut<'a> {
+    kind: u8,
+    tenant: &'a [u8],
+    subject: &'a [u8],
+    behind: &'a [u8],
+}
+
 impl<'a> Entries<'a> {
     /// The entries that the bytes are.
     pub(crate) fn new(alloc: Global, bytes: &'a [u8]) -> Entries<'a>
@@ -46,38 +51,42 @@ impl<'a> Entries<'a> {
         ensures unchanged { OnErr result (self.new ≡ self.old) }
         ensures only_memory { IfErr result (λ f. f ≡ VaultFault.Memory) }
     {
-        match read_entry(self.alloc, self.bytes)? {
-            Some((entry, rest)) => {
-                self.bytes = rest;
-                Ok(Some(entry))
+        let Some(cut) = cut_entry(self.bytes) else {
+            return Ok(None);
+        };
+        match read_entry(self.alloc, cut.kind, cut.tenant, cut.subject) {
+            Ok(entry) => {
+                self.bytes = cut.behind;
+                Ok(entry)
             }
-            None => Ok(None),
+            Err(lack) => Err(lack.into()),
         }
     }
 }
 
-/// The first entry of the bytes, if they begin with one, and the bytes behind it.
-fn read_entry(alloc: Global, bytes: &[u8]) -> Result<Option<(Entry, &[u8])>, AllocError>
-    ensures nothing { bytes.now ≡ [] → IfOk result (λ read. read ≡ None) }
-    ensures entry { (e : AnyEntry) (rest : List ℕ) → IsNamed e → bytes.now ≡ entry_bytes e ++ rest →
-        IfOk result (λ read. MatchOption read ⊥ (λ found. (found.0 ≡ e) × (found.1.now ≡ rest))) }
+/// The first entry of the bytes, if they begin with one: the number of its kind, its tenant, what it is about, and the bytes
+/// behind it.
+fn cut_entry(bytes: &[u8]) -> Option<Cut<'_>>
+    ensures nothing { bytes.now ≡ [] → result ≡ None }
+    ensures entry { (e : AnyEntry) (rest : List ℕ) → bytes.now ≡ entry_bytes e ++ rest →
+        MatchOption result ⊥ (λ cut. (cut.kind ≡ kind_of e.change) × (cut.tenant.now ≡ e.tenant)
+        × (cut.subject.now ≡ subject_of e.change) × (cut.behind.now ≡ rest)) }
 {
-    let Some((kind, behind)) = bytes.split_first() else {
-        return Ok(None);
+    let [kind, behind @ ..] = bytes else {
+        return None;
     };
     let Some((tenant, behind)) = cut_framed(behind) else {
-        return Ok(None);
+        return None;
     };
     let Some((subject, behind)) = cut_framed(behind) else {
-        return Ok(None);
+        return None;
     };
-    let Ok(tenant) = Entity::read(tenant) else {
-        return Ok(None);
-    };
-    match read_change(alloc, *kind, subject)? {
-        Some(change) => Ok(Some((Entry { tenant, change }, behind))),
-        None => Ok(None),
-    }
+    Some(Cut {
+        kind: *kind,
+        tenant,
+        subject,
+        behind,
+    })
 }
 
 /// The text that the bytes begin with, behind its length, and the bytes behind it.
@@ -91,28 +100,44 @@ fn cut_framed(bytes: &[u8]) -> Option<(&[u8], &[u8])>
     behind.split_at_checked(*high as usize * 256 + *low as usize)
 }
 
-/// The change of this kind about this subject, if there is one.
-fn read_change(alloc: Global, kind: u8, subject: &[u8]) -> Result<Option<Change>, AllocError>
-    ensures { (change : AnyChange) → HasNames change → kind ≡ kind_of change → subject.now ≡ subject_of change →
-        IfOk result (λ read. read ≡ Some change) }
+/// The tenant's entry of this kind about this subject, if there is one. Where the text is the one that is written, only memory
+/// may lack.
+fn read_entry(
+    alloc: Global,
+    kind: u8,
+    tenant: &[u8],
+    subject: &[u8],
+) -> Result<Option<Entry>, AllocError>
+    ensures { (e : AnyEntry) → IsNamed e → kind ≡ kind_of e.change → tenant.now ≡ e.tenant → subject.now ≡ subject_of e.change →
+        IfOk result (λ read. read ≡ Some e) }
 {
-    Ok(match kind {
-        0 => Some(Change::Upload(read_subject(alloc, subject)?)),
-        1 => Some(Change::Withdraw(read_subject(alloc, subject)?)),
-        2 => Entity::read(subject).ok().map(Change::Grant),
-        3 => Entity::read(subject).ok().map(Change::Revoke),
-        4 => Some(Change::GrantAll),
-        5 => Some(Change::RevokeAll),
-        _ => None,
-    })
-}
-
-/// The credential that the text spells. Where it is the one spelling that is written, only memory may lack.
-fn read_subject(alloc: Global, text: &[u8]) -> Result<Credential, AllocError>
-    ensures { (c : AnyCredential) → IsCredential c → text.now ≡ canonical c → IfOk result (λ read. read ≡ c) }
-{
-    match read_credential(alloc, text) {
-        Ok(credential) => Ok(credential),
-        Err(_fault) => Err(AllocError),
-    }
+    let Ok(tenant) = Entity::read(tenant) else {
+        return Ok(None);
+    };
+    let change = match kind {
+        0 | 1 => {
+            let Ok(credential) = read_credential(alloc, subject) else {
+                return Err(AllocError);
+            };
+            if kind == 0 {
+                Change::Upload(credential)
+            } else {
+                Change::Withdraw(credential)
+            }
+        }
+        2 | 3 => {
+            let Ok(reader) = Entity::read(subject) else {
+                return Ok(None);
+            };
+            if kind == 2 {
+                Change::Grant(reader)
+            } else {
+                Change::Revoke(reader)
+            }
+        }
+        4 => Change::GrantAll,
+        5 => Change::RevokeAll,
+        _ => return Ok(None),
+    };
+    Ok(Some(Entry { tenant, change }))
 }

@@ -43,10 +43,12 @@ pub fn put_row(blocks: &mut Vec<Block>, credential: &Credential) -> Result<bool,
         return Ok(true);
     }
     let spot = spot_of(blocks, credential);
-    put_there(blocks, spot, credential)
+    let missed = blocks[spot].put(credential)?;
+    let _halved = halve_full(blocks, spot);
+    Ok(missed)
 }
 
-/// Takes out the credential, which is there.
+/// Takes out the credential, which is there, and its block too where no row is left.
 pub fn take_row(blocks: &mut Vec<Block>, credential: &Credential) -> Result<(), AllocError>
     requires in_order { IsStrictlySortedBy credential_order (rows_in blocks.old.items) }
     requires there { list_any (eq_by_cmp credential_order credential.now) (rows_in blocks.old.items) ≡ true }
@@ -54,7 +56,12 @@ pub fn take_row(blocks: &mut Vec<Block>, credential: &Credential) -> Result<(), 
     ensures unchanged { OnErr result (rows_in blocks.new.items ≡ rows_in blocks.old.items) }
 {
     let spot = spot_of(blocks, credential);
-    take_there(blocks, spot, credential)
+    if blocks[spot].rows().len() > 1 {
+        blocks[spot].take_out(credential)
+    } else {
+        blocks.remove(spot);
+        Ok(())
+    }
 }
 
 /// Which block the credential is in or would be put into.
@@ -88,25 +95,6 @@ fn highest(blocks: &[Block], credential: &Credential) -> usize
     }
 }
 
-/// Puts the credential into its place in this block, if it isn't there, and answers whether it wasn't.
-fn put_there(
-    blocks: &mut Vec<Block>,
-    spot: usize,
-    credential: &Credential,
-) -> Result<bool, AllocError>
-    requires spot { IsSpot credential.now spot blocks.old.items }
-    requires in_order { IsStrictlySortedBy credential_order (rows_in blocks.old.items) }
-    ensures put { OnOk result (rows_in blocks.new.items ≡ insert_key credential_order (rows_in blocks.old.items) credential.now) }
-    ensures missed { IfOk result (λ missed. missed
-        ≡ not (list_any (eq_by_cmp credential_order credential.now) (rows_in blocks.old.items))) }
-    ensures unchanged { OnErr result (rows_in blocks.new.items ≡ rows_in blocks.old.items) }
-    ensures growth { OnErr result (list_any (eq_by_cmp credential_order credential.now) (rows_in blocks.old.items) ≡ false) }
-{
-    let missed = blocks[spot].put(credential)?;
-    let _halved = halve_full(blocks, spot);
-    Ok(missed)
-}
-
 /// Makes two blocks of this one where it is full. The last one keeps nearly all, since what is put in order goes behind it.
 fn halve_full(blocks: &mut Vec<Block>, spot: usize) -> Result<(), AllocError>
     requires within { spot < length blocks.old.items }
@@ -121,24 +109,4 @@ fn halve_full(blocks: &mut Vec<Block>, spot: usize) -> Result<(), AllocError>
     let rest = blocks[spot].split_off(place)?;
     blocks.insert(spot, rest)?;
     Ok(())
-}
-
-/// Takes the credential, which is there, out of this block, and the block too where no row is left.
-fn take_there(
-    blocks: &mut Vec<Block>,
-    spot: usize,
-    credential: &Credential,
-) -> Result<(), AllocError>
-    requires spot { IsSpot credential.now spot blocks.old.items }
-    requires in_order { IsStrictlySortedBy credential_order (rows_in blocks.old.items) }
-    requires there { list_any (eq_by_cmp credential_order credential.now) (rows_in blocks.old.items) ≡ true }
-    ensures taken { OnOk result (rows_in blocks.new.items ≡ without credential_order credential.now (rows_in blocks.old.items)) }
-    ensures unchanged { OnErr result (rows_in blocks.new.items ≡ rows_in blocks.old.items) }
-{
-    if blocks[spot].rows().len() > 1 {
-        blocks[spot].take_out(credential)
-    } else {
-        blocks.remove(spot);
-        Ok(())
-    }
 }

@@ -62,55 +62,20 @@ impl Model for Row {
     } };
 }
 
-impl Head {
-    /// This role, to be held: the head that is there, where it is the same, or else one that shares its owner's name, where that
-    /// is the same.
-    fn beside(held: &Arc<Head>, alloc: Global, role: &Role) -> Result<Arc<Head>, AllocError>
-        ensures { IfOk result (λ head. arc_value head ≡ role.now) }
-    {
-        if held.name == role.name && *held.owner == role.owner {
-            return Arc::try_clone(held);
-        }
-        let owner = held.share_owner(alloc, &role.owner)?;
-        let head = Head {
-            owner,
-            name: role.name,
-        };
-        Ok(Arc::new(alloc, head)?)
-    }
-
-    /// This owner's name, to be held: the head's, where it is the same.
-    fn share_owner(&self, alloc: Global, owner: &Entity) -> Result<Arc<Entity>, AllocError>
-        ensures { IfOk result (λ held. arc_value held ≡ owner.now) }
-    {
-        if *self.owner == *owner {
-            Arc::try_clone(&self.owner)
-        } else {
-            Ok(Arc::new(alloc, *owner)?)
-        }
-    }
-}
-
 impl Row {
-    /// A row with a copy of the credential.
-    pub(crate) fn of(alloc: Global, credential: &Credential) -> Result<Row, AllocError>
+    /// A row with a copy of the credential. It shares the head of the row beside it where that is the same, or else its
+    /// owner's name.
+    pub(crate) fn of(
+        alloc: Global,
+        beside: Option<&Row>,
+        credential: &Credential,
+    ) -> Result<Row, AllocError>
         ensures { IfOk result (λ r. r ≡ credential.now) }
     {
-        let owner = Arc::new(alloc, credential.head.owner)?;
-        let head = Head {
-            owner,
-            name: credential.head.name,
-        };
-        let head = Arc::new(alloc, head)?;
-        row_of(alloc, head, credential)
-    }
-
-    /// A row with a copy of the credential. It shares this row's head where that is the same, or else its owner's name.
-    pub(crate) fn beside(&self, alloc: Global, credential: &Credential) -> Result<Row, AllocError>
-        ensures { IfOk result (λ r. r ≡ credential.now) }
-    {
-        let head = Head::beside(&self.held.head, alloc, &credential.head)?;
-        row_of(alloc, head, credential)
+        let head = head_of(alloc, beside, &credential.head)?;
+        let body = credential.body.try_clone()?;
+        let held = Arc::new(alloc, HeldRow { head, body })?;
+        Ok(Row { held })
     }
 
     /// Whose role the credential's head is.
@@ -151,17 +116,20 @@ impl Row {
     pub fn compare_head(&self, role: &Role) -> Ordering
         ensures { result ≡ role_order self.now.head role.now }
     {
-        self.owner()
-            .compare(&role.owner)
-            .then_with(|| self.name().compare(&role.name))
+        match self.owner().compare(&role.owner) {
+            Ordering::Equal => self.name().compare(&role.name),
+            unequal => unequal,
+        }
     }
 
     /// How the row stands to the credential, in the order of credentials.
     pub fn compare(&self, credential: &Credential) -> Ordering
         ensures { result ≡ credential_order self.now credential.now }
     {
-        self.compare_head(&credential.head)
-            .then_with(|| self.body().compare(&credential.body))
+        match self.compare_head(&credential.head) {
+            Ordering::Equal => self.body().compare(&credential.body),
+            unequal => unequal,
+        }
     }
 
     /// Whether the row is above the credential.
@@ -172,14 +140,26 @@ impl Row {
     }
 }
 
-/// A row with a copy of the credential, whose head this is.
-fn row_of(alloc: Global, head: Arc<Head>, credential: &Credential) -> Result<Row, AllocError>
-    requires { arc_value head ≡ credential.now.head }
-    ensures { IfOk result (λ r. r ≡ credential.now) }
+/// This role, to be held: the head of the row beside it where that is the same, or else one that shares its owner's name, where
+/// that is the same.
+fn head_of(alloc: Global, beside: Option<&Row>, role: &Role) -> Result<Arc<Head>, AllocError>
+    ensures { IfOk result (λ head. arc_value head ≡ role.now) }
 {
-    let body = credential.body.try_clone()?;
-    let held = Arc::new(alloc, HeldRow { head, body })?;
-    Ok(Row { held })
+    let owner = match beside {
+        Some(row) if *row.owner() == role.owner => {
+            let held = &row.held.head;
+            if held.name == role.name {
+                return Arc::try_clone(held);
+            }
+            Arc::try_clone(&held.owner)?
+        }
+        _ => Arc::new(alloc, role.owner)?,
+    };
+    let head = Head {
+        owner,
+        name: role.name,
+    };
+    Ok(Arc::new(alloc, head)?)
 }
 
 /// The row once more: the credential isn't copied.

@@ -4,16 +4,24 @@ ghost use Rattle.std.proofs.Common.{insert, remove};
 ghost use Rattle.std.specs.Arc.{arc_value};
 
 use crate::rows::Row;
+use credential_text::Credential;
 use std::alloc::AllocError;
 use std::sync::Arc;
 
-/// Puts the row at its place.
-pub fn insert_row(held: &mut Arc<Vec<Row>>, place: usize, row: Row) -> Result<(), AllocError>
+/// Puts a row with a copy of the credential at its place.
+pub fn insert_row(
+    held: &mut Arc<Vec<Row>>,
+    place: usize,
+    credential: &Credential,
+) -> Result<(), AllocError>
     requires { place ≤ length (arc_value held.old).items }
-    ensures inserted { OnOk result ((arc_value held.new).items ≡ insert (arc_value held.old).items place row) }
+    ensures inserted { OnOk result ((arc_value held.new).items ≡ insert (arc_value held.old).items place credential.now) }
     ensures unchanged { OnErr result ((arc_value held.new).items ≡ (arc_value held.old).items) }
 {
-    Arc::make_mut(held)?.insert(place, row)?;
+    let rows = Arc::make_mut(held)?;
+    let beside = rows.get(place.saturating_sub(1));
+    let row = Row::of(*rows.allocator(), beside, credential)?;
+    rows.insert(place, row)?;
     Ok(())
 }
 

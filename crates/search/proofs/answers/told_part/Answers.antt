@@ -1,11 +1,11 @@
 -- With the last part the entity is a solution, since each part has it.
-use Rattle.std.proofs.Common.{◌≡◌, ◌<◌, ◌∙◌, ℕ, Some, ap, arith, inl, inr, refl, set, slice_get, length, subst, sym, map}
+use Rattle.std.proofs.Common.{◌≡◌, ◌<◌, ◌∙◌, ℕ, Bool, Some, ap, arith, inl, inr, refl, set, slice_get, length, subst, sym, map}
 use Rattle.std.proofs.lemmas.Option.{same_Some, slice_get_within}
 use Rattle.std.proofs.lemmas.Result.{on_ok_weaker}
 use Rattle.cred_graph.specs.declared.solutions.Reason.TheVariants as reason
 use Rattle.cred_graph.specs.Numbers.{IsEntity, entity_at}
 use Rattle.cred_graph.specs.Graph.{Fits, GraphState}
-use Rattle.monitors.specs.MeetMonitor.{AllTold, MeetLines, MeetTold}
+use Rattle.monitors.specs.MeetMonitor.{AllTold, HearsByName, MeetLines, MeetTold}
 use Rattle.search.specs.declared.findings.Monitor.TheVariants as monitor
 use Rattle.search.specs.declared.findings.NumberedMonitor.{NumberedMonitor}
 use Rattle.search.specs.declared.findings.NumberedMonitor.TheVariants as numbered_monitor
@@ -13,7 +13,7 @@ use Rattle.search.specs.Answers.{Progress, Solves}
 use Rattle.search.proofs.Tells.{PartHeard}
 use Rattle.search.specs.Numbered.{AreNumbered, monitor_at}
 use Rattle.search.proofs.Numbered.{meet_after, meet_at_node, monitor_there, part_heard, read_there, still_monitors}
-use Rattle.search.proofs.answers.told_part.Goals.{After-found, After-part_told, In_ok-part_told}
+use Rattle.search.proofs.answers.told_part.Goals.{After-found, After-part_told}
 use Rattle.search.proofs.answers.told_part.Goals as goal
 
 -- the monitor at the node is an intersection's
@@ -47,13 +47,13 @@ still c is (x, at, below) =
     }
 
 -- the part told the entity
-heard : (c : In_ok-part_told) → IsEntity c.found.inside.graph.nodes c.args.who → slice_get c.found.inside.monitors.items c.args.node ≡ Some (numbered_monitor.Meet c.in-Meet.told) →
-    PartHeard c.args.found.now.monitors (map (monitor_at c.found.inside.graph.nodes) (set c.found.inside.monitors.items c.args.node (numbered_monitor.Meet c.part_told.new.self))) c.args.node c.args.part (entity_at c.args.found.now.graph.nodes c.args.who) c.in_ok-part_told.field-0
-heard c is at =
+heard : (c : After-part_told) (last : Bool) → IsEntity c.found.inside.graph.nodes c.args.who → slice_get c.found.inside.monitors.items c.args.node ≡ Some (numbered_monitor.Meet c.in-Meet.told) → HearsByName c.in-Meet.told c.part_told.new.self c.args.part c.args.who last →
+    PartHeard c.args.found.now.monitors (map (monitor_at c.found.inside.graph.nodes) (set c.found.inside.monitors.items c.args.node (numbered_monitor.Meet c.part_told.new.self))) c.args.node c.args.part (entity_at c.args.found.now.graph.nodes c.args.who) last
+heard c last is at hears =
     let old = c.found.inside in
     let told = map (monitor_at old.graph.nodes) (set old.monitors.items c.args.node (numbered_monitor.Meet c.part_told.new.self)) in
-    subst (λ (s : Progress). PartHeard s.monitors told c.args.node c.args.part (entity_at s.graph.nodes c.args.who) c.in_ok-part_told.field-0) c.found.view_is
-    (part_heard old.graph.nodes c.found.invariant.once old.monitors.items c.args.node c.args.part c.in-Meet.told c.part_told.new.self c.args.who c.in_ok-part_told.field-0 c.found.invariant.monitors at is c.in_ok-part_told.ensures.ok)
+    subst (λ (s : Progress). PartHeard s.monitors told c.args.node c.args.part (entity_at s.graph.nodes c.args.who) last) c.found.view_is
+    (part_heard old.graph.nodes c.found.invariant.once old.monitors.items c.args.node c.args.part c.in-Meet.told c.part_told.new.self c.args.who last c.found.invariant.monitors at is hears)
 
 pub index_mut-requires : goal.index_mut-requires
 index_mut-requires c =
@@ -80,14 +80,14 @@ invariant_of-found c =
     let at = goal.at.invariant_of-found c in
     still at.After-part_told (is_entity at.After-found) (there at.After-found)
 
-pub invariant_of-found-then-not-branch : goal.invariant_of-found-then-not-branch
-invariant_of-found-then-not-branch c =
-    let at = goal.at.invariant_of-found-then-not-branch c in
+pub invariant_of-found-in-Ok-false : goal.invariant_of-found-in-Ok-false
+invariant_of-found-in-Ok-false c =
+    let at = goal.at.invariant_of-found-in-Ok-false c in
     still at.After-part_told (is_entity at.After-found) (there at.After-found)
 
-pub invariant_of-found-2 : goal.invariant_of-found-2
-invariant_of-found-2 c =
-    let at = goal.at.invariant_of-found-2 c in
+pub invariant_of-found-in-Err : goal.invariant_of-found-in-Err
+invariant_of-found-in-Err c =
+    let at = goal.at.invariant_of-found-in-Err c in
     still at.After-part_told (is_entity at.After-found) (there at.After-found)
 
 pub solve-requires : goal.solve-requires
@@ -95,8 +95,8 @@ solve-requires c =
     let at = goal.at.solve-requires c in
     let (x, here, below) = there at.After-found in
     let who = entity_at c.args.found.now.graph.nodes c.args.who in
-    let heard = heard at.In_ok-part_told (is_entity at.After-found) (told_at at.After-part_told x here) in
-    let all = (heard.3.1.0 c.if-not-branch.false).0 in
+    let heard = heard at.After-part_told c.in-Ok-true.field-0 (is_entity at.After-found) (told_at at.After-part_told x here) c.in-Ok-true.ensures.ok in
+    let all = (heard.3.1.0 c.in-Ok-true.field-0-test).0 in
     let same = sym (ap (λ (s : Progress). s.graph) c.found.view_is) in record {
       node = subst (λ (g : GraphState). c.args.node < length g.nodes) same c.requires.node;
       entity = is_entity at.After-found;
@@ -105,22 +105,18 @@ solve-requires c =
           (c.requires.last heard.0 heard.2 (subst (λ (y : MeetTold). AllTold y who) heard.3.0 all));
     }
 
-pub returns-then-not-branch : goal.returns-then-not-branch
-returns-then-not-branch c =
-    let at = goal.at.returns-then-not-branch c in
+pub returns-in-Ok-false : goal.returns-in-Ok-false
+returns-in-Ok-false c =
+    let at = goal.at.returns-in-Ok-false c in
     let (x, here, below) = there at.After-found in
-    let s = c.args.found.now in
-    let old = c.found.inside in
-    let told = map (monitor_at old.graph.nodes) (set old.monitors.items c.args.node (numbered_monitor.Meet c.part_told.new.self)) in
-    (c.in_ok-part_told.field-0, told, heard at.In_ok-part_told (is_entity at.After-found) (told_at at.After-part_told x here), inl (c.if-not-branch.true, ap (λ (t : Progress). record t { monitors = told }) c.found.view_is))
+    let told = map (monitor_at c.found.inside.graph.nodes) (set c.found.inside.monitors.items c.args.node (numbered_monitor.Meet c.part_told.new.self)) in
+    (c.in-Ok-false.field-0, told, heard at.After-part_told c.in-Ok-false.field-0 (is_entity at.After-found) (told_at at.After-part_told x here) c.in-Ok-false.ensures.ok, inl (c.in-Ok-false.field-0-test, ap (λ (t : Progress). record t { monitors = told }) c.found.view_is))
 
-pub returns : goal.returns
-returns c =
-    let at = goal.at.returns c in
+pub returns-in-Ok-true : goal.returns-in-Ok-true
+returns-in-Ok-true c =
+    let at = goal.at.returns-in-Ok-true c in
     let (x, here, below) = there at.After-found in
-    let s = c.args.found.now in
-    let old = c.found.inside in
-    let told = map (monitor_at old.graph.nodes) (set old.monitors.items c.args.node (numbered_monitor.Meet c.part_told.new.self)) in
+    let told = map (monitor_at c.found.inside.graph.nodes) (set c.found.inside.monitors.items c.args.node (numbered_monitor.Meet c.part_told.new.self)) in
     (on_ok_weaker c.solve.result
-    (λ solves. (c.in_ok-part_told.field-0, told, heard at.In_ok-part_told (is_entity at.After-found) (told_at at.After-part_told x here), inr (c.if-not-branch.false, subst (λ (t : Progress). Solves (record t { monitors = told }) c.solve.new.found c.args.node (entity_at t.graph.nodes c.args.who) reason.Parts) c.found.view_is solves)))
+    (λ solves. (c.in-Ok-true.field-0, told, heard at.After-part_told c.in-Ok-true.field-0 (is_entity at.After-found) (told_at at.After-part_told x here) c.in-Ok-true.ensures.ok, inr (c.in-Ok-true.field-0-test, subst (λ (t : Progress). Solves (record t { monitors = told }) c.solve.new.found c.args.node (entity_at t.graph.nodes c.args.who) reason.Parts) c.found.view_is solves)))
     c.solve.ensures)

@@ -1,12 +1,14 @@
-use Rattle.std.proofs.Common.{ℕ, true, false, not, List, [], ◌∷◌, ◌++◌, ◌≡◌, ◌<◌, ◌∙◌, arith, length, sym, ap, refl, nat_eq}
+use Rattle.std.proofs.Common.{ℕ, true, false, not, List, [], ◌∷◌, ◌++◌, ◌≡◌, ◌<◌, ◌∙◌, arith, length, sym, ap, refl, subst, set, nat_eq}
 use Rattle.std.specs.List.{list_any}
 use Rattle.std.specs.Ordering.{eq_by_cmp}
 use Rattle.std.specs.BTreeSet.{insert_key}
 use Rattle.std.proofs.lemmas.Bool.Decides.{nat_tests}
+use Rattle.std.proofs.lemmas.Option.{slice_get_read}
 use Rattle.credential_text.specs.declared.credentials.Credential.{Credential}
 use Rattle.credential_text.specs.Credential.{credential_order}
-use Rattle.vaults.specs.Blocks.{rows_in}
+use Rattle.vaults.specs.Blocks.{rows_in, IsSpot}
 use Rattle.vaults.proofs.Outcomes.{on_err}
+use Rattle.vaults.proofs.Parts.{put_at_spot, has_at_spot}
 use Rattle.vaults.proofs.parted_rows.put_row.Goals as goal
 
 -- the test of a count
@@ -52,3 +54,29 @@ returns-then-is_empty-clause-missed c = sym (ap not (has_none c.args.blocks.now.
 pub spot_of-spot-requires : goal.spot_of-spot-requires
 spot_of-spot-requires c =
     omega (arith, ap length c.deref.ensures.value, is_something c.args.blocks.now.len (sym c.if-is_empty.false ∙ c.is_empty.ensures), c.args.blocks.now.ok.0)
+
+pub returns-in_err-missed-clause-growth : goal.returns-in_err-missed-clause-growth
+returns-in_err-missed-clause-growth c =
+    let spot : IsSpot c.args.credential.now c.spot_of-spot.result c.args.blocks.now.items =
+    subst (IsSpot c.args.credential.now c.spot_of-spot.result) c.deref.ensures.value c.spot_of-spot.ensures in
+    on_err c.from_residual-in_err-missed.result
+    (has_at_spot c.args.blocks.now.items c.spot_of-spot.result c.args.credential.now c.index_mut.result.now c.requires spot
+    (slice_get_read c.args.blocks.now.items (length c.args.blocks.now.items) c.spot_of-spot.result c.index_mut.result.now refl spot.within c.index_mut.ensures.value)
+    ∙ c.in_err-missed.ensures.growth)
+
+pub returns-clause-put : goal.returns-clause-put
+returns-clause-put c =
+    let spot : IsSpot c.args.credential.now c.spot_of-spot.result c.args.blocks.now.items =
+    subst (IsSpot c.args.credential.now c.spot_of-spot.result) c.deref.ensures.value c.spot_of-spot.ensures in
+    c.halve_full-halved.ensures
+    ∙ ap (λ b. rows_in (set c.args.blocks.now.items c.spot_of-spot.result b)) c.in_ok-missed.ensures.put
+    ∙ put_at_spot c.args.blocks.now.items c.spot_of-spot.result c.args.credential.now c.index_mut.result.now c.requires spot spot.within
+    (slice_get_read c.args.blocks.now.items (length c.args.blocks.now.items) c.spot_of-spot.result c.index_mut.result.now refl spot.within c.index_mut.ensures.value)
+
+pub returns-clause-missed : goal.returns-clause-missed
+returns-clause-missed c =
+    let spot : IsSpot c.args.credential.now c.spot_of-spot.result c.args.blocks.now.items =
+    subst (IsSpot c.args.credential.now c.spot_of-spot.result) c.deref.ensures.value c.spot_of-spot.ensures in
+    c.in_ok-missed.ensures.missed
+    ∙ ap not (sym (has_at_spot c.args.blocks.now.items c.spot_of-spot.result c.args.credential.now c.index_mut.result.now c.requires spot
+    (slice_get_read c.args.blocks.now.items (length c.args.blocks.now.items) c.spot_of-spot.result c.index_mut.result.now refl spot.within c.index_mut.ensures.value)))

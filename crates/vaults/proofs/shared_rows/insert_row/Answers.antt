@@ -9,27 +9,28 @@ pub insert-requires : goal.insert-requires
 insert-requires c =
     omega (
       arith,
-      ap length (same_rows (arc_value c.args.held.now).items c.in_ok-make_mut.field-0.now.items _ _ (λ e. ap (λ v. v.items) e) c.in_ok-make_mut.ensures.value),
-      c.in_ok-make_mut.field-0.now.ok.0,
+      ap length (same_rows (arc_value c.args.held.now).items c.in_ok-rows.rows.now.items _ _ (λ e. ap (λ v. v.items) e) c.in_ok-rows.ensures.value),
+      c.in_ok-rows.rows.now.ok.0,
       c.requires,
     )
 
 pub returns-in_err-insert-clause-unchanged : goal.returns-in_err-insert-clause-unchanged
 returns-in_err-insert-clause-unchanged c =
     on_err c.from_residual-in_err-insert.result
-    (ap (λ v. v.items) (c.make_mut.follows.holds c.insert.new.self (subst IsOk (sym c.in_ok-make_mut.was) refl))
+    (ap (λ v. v.items) (c.make_mut.follows.holds c.insert.new.self (subst IsOk (sym c.in_ok-rows.was) refl))
     ∙ c.in_err-insert.ensures.items
-    ∙ same_rows (arc_value c.args.held.now).items c.in_ok-make_mut.field-0.now.items _ _ (λ e. ap (λ v. v.items) e) c.in_ok-make_mut.ensures.value)
+    ∙ same_rows (arc_value c.args.held.now).items c.in_ok-rows.rows.now.items _ _ (λ e. ap (λ v. v.items) e) c.in_ok-rows.ensures.value)
 
 pub returns-clause-inserted : goal.returns-clause-inserted
 returns-clause-inserted c =
-    ap (λ v. v.items) (c.make_mut.follows.holds c.insert.new.self (subst IsOk (sym c.in_ok-make_mut.was) refl))
+    ap (λ v. v.items) (c.make_mut.follows.holds c.insert.new.self (subst IsOk (sym c.in_ok-rows.was) refl))
     ∙ c.in_ok-insert.ensures.items
-    ∙ ap (λ rows. insert rows c.args.place c.args.row)
-    (same_rows (arc_value c.args.held.now).items c.in_ok-make_mut.field-0.now.items _ _ (λ e. ap (λ v. v.items) e) c.in_ok-make_mut.ensures.value)
+    ∙ ap (λ rows. insert rows c.args.place c.in_ok-row.row)
+    (same_rows (arc_value c.args.held.now).items c.in_ok-rows.rows.now.items _ _ (λ e. ap (λ v. v.items) e) c.in_ok-rows.ensures.value)
+    ∙ ap (insert (arc_value c.args.held.now).items c.args.place) c.in_ok-row.ensures
 
-pub returns-in_err-make_mut-clause-unchanged : goal.returns-in_err-make_mut-clause-unchanged
-returns-in_err-make_mut-clause-unchanged c =
+pub returns-in_err-rows-clause-unchanged : goal.returns-in_err-rows-clause-unchanged
+returns-in_err-rows-clause-unchanged c =
     on_err c.from_residual.result
     (same_rows (arc_value c.args.held.now).items (arc_value c.make_mut.follows.lender-at-none).items _ _ (λ e. ap (λ v. v.items) e)
-    (rw c.in_err-make_mut.was at c.make_mut.follows.holds-at-none))
+    (rw c.in_err-rows.was at c.make_mut.follows.holds-at-none))

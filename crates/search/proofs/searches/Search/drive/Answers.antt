@@ -1,47 +1,59 @@
--- What holds of each drive holds of the steps that were made.
-use Rattle.std.proofs.Common.{◌≡◌, sym, subst}
+-- What holds of each drive holds of the steps that were made: the first signal, or the first letter where no signal is under way.
+use Rattle.std.proofs.Common.{arith, inl, sym, subst}
 use Rattle.search.specs.Stage.{IsQuiet}
 use Rattle.search.specs.Search.{SearchState}
 use Rattle.search.specs.Finish.{IsDriven}
-use Rattle.search.proofs.Driven.{driven_more, driven_holds, driven_question, driven_settles, made_left, none_held_on}
+use Rattle.search.proofs.Driven.{Made, driven_more, driven_holds, driven_question, driven_settles, finishes_first, first_goes, made_left, none_held_on, nothing_first}
 use Rattle.search.proofs.searches.Search.drive.Goals as goal
-use Rattle.search.proofs.searches.Search.drive.Goals.{After-is_quiet-settled}
+use Rattle.search.proofs.searches.Search.drive.Goals.{After-signal, After-receive_held-finished}
 
-pub loop-init : goal.loop-init
-loop-init c = IsDriven.rests
+-- a signal was delivered
+signalled : (c : After-signal) → Made c.loop-self.self c.signal.new.self
+signalled c = inl (record {
+  delivered = first_goes c.loop-self.self.stage c.signal.new.self.stage c.signal.result (omega (arith, c.if-signals-gt0.true, c.signals.ensures)) c.signal.ensures.delivered;
+  graph = c.signal.ensures.findings.0;
+  monitors = c.signal.ensures.findings.1;
+  question = c.signal.ensures.question;
+  settles = c.signal.ensures.settles;
+})
 
-pub loop-smaller : goal.loop-smaller
-loop-smaller c = made_left c.loop.self c.make_step.new.self (c.make_step.ensures.made c.loop-test.true)
+-- a letter was finished
+finished : (c : After-receive_held-finished) → Made c.loop-self.self c.receive_held-finished.new.self
+finished c =
+    finishes_first c.loop-self.self c.take_held.new.self c.receive_held-finished.new.self c.in-Some.letter c.in-Some.held c.receive_held-finished.result (omega (arith, c.if-signals-gt0.false, c.signals.ensures))
+    c.in-Some.ensures.taken c.in-Some.ensures.settles c.receive_held-finished.ensures.receives c.receive_held-finished.ensures.settles
 
-pub loop-preserved : goal.loop-preserved
-loop-preserved c = driven_more c.args.self.now c.loop.self c.make_step.new.self c.loop.invariant (c.make_step.ensures.made c.loop-test.true)
+pub loop-self-init : goal.loop-self-init
+loop-self-init c = IsDriven.rests
 
--- with no step left to make the drive is over
-over : (c : After-is_quiet-settled) → c.make_step.new.self ≡ c.loop.self
-over c = (c.make_step.ensures.none c.loop-test.false).1
+pub loop-self-smaller-then-signals-gt0 : goal.loop-self-smaller-then-signals-gt0
+loop-self-smaller-then-signals-gt0 c = made_left c.loop-self.self c.signal.new.self (signalled c)
 
-driven : (c : After-is_quiet-settled) → IsDriven c.args.self.now c.make_step.new.self
-driven c = subst (IsDriven c.args.self.now) (sym (over c)) c.loop.invariant
+pub loop-self-preserved-then-signals-gt0 : goal.loop-self-preserved-then-signals-gt0
+loop-self-preserved-then-signals-gt0 c = driven_more c.args.self.now c.loop-self.self c.signal.new.self c.loop-self.invariant (signalled c)
 
-quiet : (c : After-is_quiet-settled) → IsQuiet c.make_step.new.self.stage
-quiet c = subst (λ (s : SearchState). IsQuiet s.stage) (sym (over c)) (c.make_step.ensures.none c.loop-test.false).0
+pub loop-self-smaller : goal.loop-self-smaller
+loop-self-smaller c = made_left c.loop-self.self c.receive_held-finished.new.self (finished c)
 
-pub returns-clause-settled : goal.returns-clause-settled
-returns-clause-settled c =
-    let after = (goal.at.returns-clause-settled c).After-is_quiet-settled in
-    λ none outstanding. c.is_quiet-settled.ensures.settled (quiet after)
-    (none_held_on c.args.self.now.stage c.make_step.new.self.stage (driven_holds c.args.self.now c.make_step.new.self (driven after)) none) outstanding
+pub loop-self-preserved : goal.loop-self-preserved
+loop-self-preserved c = driven_more c.args.self.now c.loop-self.self c.receive_held-finished.new.self c.loop-self.invariant (finished c)
 
-pub returns-clause-held : goal.returns-clause-held
-returns-clause-held c = driven_holds c.args.self.now c.make_step.new.self (driven (goal.at.returns-clause-held c).After-is_quiet-settled)
+pub receive_held-finished-requires : goal.receive_held-finished-requires
+receive_held-finished-requires c = record { held = c.in-Some.ensures.taken.2; span = λ e at. tt }
 
-pub returns-clause-none_held : goal.returns-clause-none_held
-returns-clause-none_held c =
-    none_held_on c.args.self.now.stage c.make_step.new.self.stage
-    (driven_holds c.args.self.now c.make_step.new.self (driven (goal.at.returns-clause-none_held c).After-is_quiet-settled))
-
-pub returns-clause-question : goal.returns-clause-question
-returns-clause-question c = driven_question c.args.self.now c.make_step.new.self (driven (goal.at.returns-clause-question c).After-is_quiet-settled)
-
-pub returns-clause-settles : goal.returns-clause-settles
-returns-clause-settles c = driven_settles c.args.self.now c.make_step.new.self (driven (goal.at.returns-clause-settles c).After-is_quiet-settled)
+pub returns : goal.returns
+returns c =
+    let s = c.args.self.now in
+    let over = c.in_default.ensures.taken.1 in
+    let t = c.take_held.new.self in
+    let driven = subst (IsDriven s) (sym over) c.loop-self.invariant in
+    let quiet = subst (λ (x : SearchState). IsQuiet x.stage) (sym over) (nothing_first c.loop-self.self.stage (omega (arith, c.if-signals-gt0.false, c.signals.ensures)) c.in_default.ensures.taken.0) in
+    let held = driven_holds s t driven in record {
+      driven = driven;
+      quiet = quiet;
+      settled = λ none outstanding. c.is_quiet-settled.ensures.settled quiet (none_held_on s.stage t.stage held none) outstanding;
+      held = held;
+      none_held = none_held_on s.stage t.stage held;
+      question = driven_question s t driven;
+      settles = driven_settles s t driven;
+    }

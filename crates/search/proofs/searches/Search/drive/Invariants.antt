@@ -3,8 +3,8 @@ use Rattle.search.specs.Finish.{IsDriven}
 use Rattle.search.proofs.Searching.{steps_left}
 use Rattle.search.proofs.searches.Search.drive.Given as goal
 
-abbrev pub invariant-loop : goal.invariant-loop
-invariant-loop l = IsDriven l.initial.self l.self
+abbrev pub invariant-loop-self : goal.invariant-loop-self
+invariant-loop-self l = IsDriven l.initial.self l.self
 
-abbrev pub decreases-loop : goal.decreases-loop
-decreases-loop l = steps_left l.self.work l.self.stage
+abbrev pub decreases-loop-self : goal.decreases-loop-self
+decreases-loop-self l = steps_left l.self.work l.self.stage

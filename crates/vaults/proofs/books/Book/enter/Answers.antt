@@ -42,8 +42,8 @@ pub invariant_of-self-in_err-count : goal.invariant_of-self-in_err-count
 invariant_of-self-in_err-count c = record {
   accepted = subst AreAccepted (sym c.prepare.ensures.same) c.self.invariant.accepted;
   pages_are = subst (λ (j : List Entry). ArePages j c.keep.new.pages) (sym c.prepare.ensures.same) (λ tenant. c.in_err-count.ensures.unchanged tenant ∙ c.self.invariant.pages_are tenant);
-  granting_are = subst (λ (j : List Entry). AreGranting j c.keep.new.granting) (sym c.prepare.ensures.same) (λ owner reader. c.in_err-count.ensures.same_granting owner reader ∙ c.self.invariant.granting_are owner reader);
-  public_are = subst (λ (j : List Entry). ArePublic j c.keep.new.public) (sym c.prepare.ensures.same) (λ owner. c.in_err-count.ensures.same_public owner ∙ c.self.invariant.public_are owner);
+  granting_are = subst (λ (j : List Entry). AreGranting j c.keep.new.granting) (sym c.prepare.ensures.same) (λ owner reader. c.in_err-count.ensures.same_gifts.0 owner reader ∙ c.self.invariant.granting_are owner reader);
+  public_are = subst (λ (j : List Entry). ArePublic j c.keep.new.public) (sym c.prepare.ensures.same) (λ owner. c.in_err-count.ensures.same_gifts.1 owner ∙ c.self.invariant.public_are owner);
 }
 
 pub invariant_of-self-2 : goal.invariant_of-self-2
@@ -55,9 +55,9 @@ invariant_of-self-2 c =
       pages_are = pages_after c.self.inside.journal.kept.0 c.prepare.new.self.kept.0 c.enter.new.self.kept.0 c.args.who c.args.change.now c.self.inside.pages c.keep.new.pages
           none c.self.invariant.pages_are c.in_ok-count.ensures.kept c.prepare.ensures.same c.enter.ensures;
       granting_are = granting_after c.self.inside.journal.kept.0 c.prepare.new.self.kept.0 c.enter.new.self.kept.0 c.args.who c.args.change.now c.self.inside.granting c.keep.new.granting
-          c.self.invariant.granting_are c.in_ok-count.ensures.grant c.prepare.ensures.same c.enter.ensures;
+          c.self.invariant.granting_are c.in_ok-count.ensures.gift.0 c.prepare.ensures.same c.enter.ensures;
       public_are = public_after c.self.inside.journal.kept.0 c.prepare.new.self.kept.0 c.enter.new.self.kept.0 c.args.who c.args.change.now c.self.inside.public c.keep.new.public
-          c.self.invariant.public_are c.in_ok-count.ensures.public c.prepare.ensures.same c.enter.ensures;
+          c.self.invariant.public_are c.in_ok-count.ensures.gift.1 c.prepare.ensures.same c.enter.ensures;
     }
 
 pub returns-clause-accepted : goal.returns-clause-accepted
