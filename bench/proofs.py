@@ -22,7 +22,7 @@ sys.path.insert(0, str(ROOT / "launch"))
 from build import Build, Toolchain, alone, read_crates
 
 # what the prover makes of a function; a longer name comes before one that it ends with
-PARTS = ("Lts.View", "Lts", "Tie", "Goals", "Answers", "Proof", "Statement", "Named", "Reads", "Code.Mir", "Code", "Kinds", "Given", "Layout", "Met")
+PARTS = ("Lts.View", "Lts.Given", "Lts", "Tie", "Goals", "Answers", "Proof", "Statement", "Named", "Reads", "Code.Mir", "Code", "Kinds", "Given", "Layout", "Met")
 
 
 def kept(folder):
@@ -61,7 +61,8 @@ def main():
         words = [*toolchain.prover("check", crate), "--incremental", folder, "--jobs", "1"]
         words += [word for it in given.only for word in ("--only", it)]
         before = resource.getrusage(resource.RUSAGE_CHILDREN)
-        said = subprocess.run(words, cwd=crate.folder, stdin=subprocess.DEVNULL, stdout=subprocess.PIPE, text=True, errors="replace")
+        how = {"stdin": subprocess.DEVNULL, "stdout": subprocess.PIPE, "stderr": subprocess.STDOUT, "text": True, "errors": "replace"}
+        said = subprocess.run(words, cwd=crate.folder, **how)
         after = resource.getrusage(resource.RUSAGE_CHILDREN)
         functions, parts, sizes = shared_out(kept(pathlib.Path(folder)), crate.name)
     taken = after.ru_utime + after.ru_stime - before.ru_utime - before.ru_stime
