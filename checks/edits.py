@@ -4,17 +4,18 @@
   checks/edits.py [--over FOLDER] [NAME..]    those of these crates, or of all
 
 A function is proved by its own contract and by those of what it calls, so whether a wrong body is refused doesn't depend on
-what stands in other bodies. So the edits of a crate are applied to one copy of it, all that turn different functions at once,
-and one process proves the functions that they turn, and those that they call. Each of these has to be refused by a goal of its
-own: that something which it calls isn't proved is no refusal, nor is a name that a proof lacks. What isn't refused so is tried
-once more, in a round that hasn't begun or in one with others of its kind, and then alone; and alone is tried at once what
-changes a line outside functions. A crate's first such round keeps what it proves, and each later one begins with that, so it
-proves again what was turned and no more. Half of the processors are left to `rt ci` while it goes on, and each round takes
+what stands in other bodies. So the edits of a crate are applied to one copy of it, all that turn different functions at once, and
+the bodies of all other functions are taken out of that copy, with a hole for the proof of each (checks/functions.py): one process
+proves what was turned, and next to nothing else. Each function that was turned has to be refused by a goal of its own: that something
+which it calls isn't proved is no refusal, nor is a name that a proof lacks. Of other functions none may be refused, so a body
+that is gone is no reason either. What isn't refused so is tried once more, in a round that hasn't begun or in one with others of its
+kind, and then alone; and alone is tried at once what changes a line outside functions. A crate's first such round keeps what it
+proves, and each later one begins with that. Half of the processors are left to `rt ci` while it goes on, and each round takes
 one, since a second makes a third more work of it; then one of several edits takes more, where no other waits. An edit that
 turns no function's body, but a definition or a type, has a line `# at FUNCTION`, and has to be refused there. One for which
 the prover looks for minutes has a line `# long`, and is tried alone, beside its crate's first round. The other `#` line is for
 docs/EDITS.md (checks/index.py). `rt ci` and `rt must-fail NAME` try each edit in a process of its own, which loads the crates
-below each time.
+below each time, and over the crate as it stands.
 
 The crates below are taken from FOLDER/crates/NAME/out/rlib, as `rt ci` leaves them while it goes on there and writes what it says
 to FOLDER/said, which ends with a line `ended`; a crate's edits begin once those below it are proved. Without the option these are
@@ -37,10 +38,8 @@ ROOT = pathlib.Path(__file__).resolve().parent.parent
 sys.dont_write_bytecode = True
 sys.path.insert(0, str(ROOT / "launch"))
 from build import PARTS, Build, Stopped, Toolchain, alone, free_memory, memory_of, read_crates
+from functions import function_at, take_out_bodies
 
-FUNCTION = re.compile(r"(\s*)(?:pub(?:\([^)]*\))? )?(?:const )?fn (\w+)")
-IMPL = re.compile(r"impl(?:<.*?>)? (?:(?:\w+::)*(\w+)(?:<.*>)? for )?(?:\w+::)*(\w+)")
-ITEM = re.compile(r"(pub(\([^)]*\))? )?(static|const|struct|enum|trait|mod|use) |\}")
 PROVED = re.compile(r"rt: (\w+) (?:proved$|is kept:)")  # kept: the same files were proved over the same libraries before
 MISSING_NAME = re.compile(r"has no field|is not in scope|has no `|was not admitted")
 
@@ -60,11 +59,12 @@ class Hunk:
 
 @dataclasses.dataclass
 class Edit:
-    """A wrong body: what it replaces, and the functions at one of which it has to be refused."""
+    """A wrong body: what it replaces, the functions at one of which it has to be refused, and those whose bodies it turns."""
 
     name: str
     hunks: list
     functions: set
+    turned: set
     is_alone: bool = False
     is_long: bool = False
     tries: int = 0  # beside others, by which it wasn't refused
@@ -77,22 +77,6 @@ class Edit:
 
 class BadEdit(Exception):
     """Why an edit can't be tried."""
-
-
-def function_at(path, lines, at):
-    """The function that has this line, or None: by its module, or, since the prover names a method by its type's module, by its
-    type, which an impl's trait follows."""
-    for above in range(at, -1, -1):
-        found = FUNCTION.match(lines[above])
-        if found and found[1]:
-            impl = next(it for it in map(IMPL.match, reversed(lines[:above])) if it)
-            return f"{impl[2]}{impl[1] or ''}::{found[2]}"
-        if found:
-            modules = [it for it in pathlib.PurePath(path).with_suffix("").parts[1:] if it not in ("lib", "main", "mod")]
-            return "::".join([*modules, found[2]])
-        if above < at and ITEM.match(lines[above]):
-            return None
-    return None
 
 
 def changed(before, after):
@@ -131,7 +115,8 @@ def read_edit(folder, file):
     if not places and functions == {None}:
         raise BadEdit("it turns no function's body, so it needs a line `# at FUNCTION`")
     is_alone = is_long or bool(places) or None in functions
-    return Edit(file.stem, hunks, places or functions - {None}, is_alone, is_long)
+    turned = functions - {None}
+    return Edit(file.stem, hunks, places or turned, turned, is_alone, is_long)
 
 
 def rounds_of(edits):
@@ -146,11 +131,11 @@ def rounds_of(edits):
     return sorted(rounds, key=len, reverse=True)
 
 
-def copy_with(edits, folder, room):
-    """Copies the crate's sources to the room, with these edits applied."""
+def copy_with(edits, crate, room):
+    """Copies the crate's sources to the room, with these edits applied, and without the bodies of functions that they don't speak of."""
     for part in PARTS:
-        if (folder / part).is_dir():
-            shutil.copytree(folder / part, room / part)
+        if (crate.folder / part).is_dir():
+            shutil.copytree(crate.folder / part, room / part)
     hunks = sorted((it for edit in edits for it in edit.hunks), key=lambda it: it.begin, reverse=True)
     for path in {it.path for it in hunks}:
         lines = (room / path).read_text().split("\n")
@@ -158,20 +143,24 @@ def copy_with(edits, folder, room):
             if it.path == path:
                 lines[it.begin : it.end] = it.lines
         (room / path).write_text("\n".join(lines))
+    take_out_bodies(room, crate.name, {name for edit in edits for name in edit.functions | edit.turned})
 
 
 def try_at_once(crate, edits, toolchain, kept, jobs):
     """Tries edits of a crate in one copy of it, over what that folder keeps, and returns for each whether it is refused, and a text."""
     functions = sorted(it for edit in edits for it in edit.functions)
-    words = [*toolchain.prover("check", crate), "--incremental", str(kept), "--jobs", str(jobs)]
+    words = [*toolchain.prover("check", crate), "--incremental", str(kept), "--jobs", str(jobs), "--allow-holes"]
     words += [word for it in functions for word in ("--only", it)]
     with tempfile.TemporaryDirectory(prefix="edits-") as room:
-        copy_with(edits, crate.folder, pathlib.Path(room))
+        copy_with(edits, crate, pathlib.Path(room))
         how = {"cwd": room, "stdin": subprocess.DEVNULL, "stdout": subprocess.PIPE, "stderr": subprocess.STDOUT, "errors": "replace"}
         said = subprocess.run(words, **how).stdout.splitlines()
     if not said or not said[-1].startswith("only="):
         why = next((it for it in said if "error" in it), said[-1] if said else "nothing was said")
         return [(False, f"BAD EDIT: the prover doesn't come to its end: {why[:300]}") for _ in edits]
+    elsewhere = refused_elsewhere(crate, edits, said)
+    if elsewhere:
+        return [(False, f"NOT REFUSED: something else is, that no edit turns: {elsewhere[0][:300]}") for _ in edits]
     return [judge(crate, edit, said) for edit in edits]
 
 
@@ -184,17 +173,27 @@ def verdicts_of(crate, function, said):
     return [found.groups() for found in map(line.match, said) if found]
 
 
+def folder_of(edit, path):
+    """Where the goals stand by which an edit is refused at a function: alone anywhere, since a definition is refused by the lemmas that
+    speak of it."""
+    return "./proofs/" if edit.is_alone else f"./proofs/{path.replace('::', '/')}/"
+
+
+def refused_elsewhere(crate, edits, said):
+    """The goals that the prover refuses, which said this, of functions and lemmas that none of these edits turns."""
+    folders = tuple(folder_of(edit, path) for edit in edits for function in edit.functions for path, _ in verdicts_of(crate, function, said))
+    return [it for it in said if it.startswith("./proofs/") and ": error" in it and not it.startswith(folders)]
+
+
 def judge(crate, edit, said):
     """Whether the prover, which said this, refused the edit, and a text."""
     others = []
     for function in sorted(edit.functions):
         for path, verdict in verdicts_of(crate, function, said) or [(function, "nothing was said of it")]:
-            # (alone, so that every goal is its own: a definition is refused by the lemmas that speak of it)
-            folder = "./proofs/" if edit.is_alone else "./proofs/" + path.replace("::", "/") + "/"
+            folder = folder_of(edit, path)
             goals = [it[len(folder) :][:160] for it in said if it.startswith(folder) and ": error" in it]
-            if "it calls" not in verdict:
-                goals += re.findall(r"`search` did not prove .*", verdict)
-                goals += ["no proof of a goal"] if verdict.startswith("not proved") and not goals else []
+            goals += re.findall(r"`search` did not prove [^;]*", verdict)
+            goals += ["no proof of a goal"] if verdict.startswith("not proved") and "it calls" not in verdict and not goals else []
             if goals and not all(map(MISSING_NAME.search, goals)):
                 return True, f"refused at {path}: {goals[0]}"
             others.append(": ".join([f"{path} is {verdict}", *goals[:1]]))

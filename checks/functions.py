@@ -1,0 +1,80 @@
+"""The functions of a crate's files: which one a line stands in, and how bodies are taken out of them."""
+import pathlib
+import re
+import shutil
+
+from sources import code_files
+
+FUNCTION = re.compile(r"(\s*)(?:pub(?:\([^)]*\))? )?(?P<constant>const )?fn (?P<name>\w+)")
+IMPL = re.compile(r"impl(?:<.*?>)? (?:(?:\w+::)*(?P<trait>\w+)(?:<.*>)? for )?(?:\w+::)*(?P<type>\w+)")
+ITEM = re.compile(r"(pub(\([^)]*\))? )?(static|const|struct|enum|trait|mod|use) |\}")
+TYPE = re.compile(r"(?:pub(?:\([^)]*\))? )?(?:struct|enum) (\w+)")
+
+
+def module_of(path):
+    """The names that lead to the module of a file, by its path within the crate."""
+    return [it for it in pathlib.PurePath(path).with_suffix("").parts[1:] if it not in ("lib", "main", "mod")]
+
+
+def function_at(path, lines, at):
+    """The function that has this line, or None: by its module, or, since the prover names a method by its type's module, by its
+    type, which an impl's trait follows."""
+    for above in range(at, -1, -1):
+        found = FUNCTION.match(lines[above])
+        if found and found[1]:
+            impl = next(it for it in map(IMPL.match, reversed(lines[:above])) if it)
+            return f"{impl['type']}{impl['trait'] or ''}::{found['name']}"
+        if found:
+            return "::".join([*module_of(path), found["name"]])
+        if above < at and ITEM.match(lines[above]):
+            return None
+    return None
+
+
+def bodies_in(lines):
+    """The bodies of functions that can be taken out of a file's lines, the last one first: for each the lines of its head and of its
+    braces, the type whose method it is, or None, and its name. Left are those of traits, whose laws speak of their methods, and
+    of constant functions and `main`, which more than their callers read."""
+    bodies, block = [], ""
+    for at, line in enumerate(lines):
+        if line[:1].strip():
+            block = line
+        impl, found = IMPL.match(block), FUNCTION.match(line)
+        is_method = bool(found and found[1])
+        if not found or line.endswith("}") or found["constant"] or found["name"] == "main" or (is_method and (not impl or impl["trait"])):
+            continue
+        indent = found[1]
+        ends_head = (indent + ")", indent + ">", line)
+        begin = next(it for it in range(at, len(lines)) if lines[it] in (indent + "{", indent + "{}") or (lines[it].endswith(" {") and lines[it].startswith(ends_head)))
+        if lines[begin].endswith("}"):
+            continue
+        end = lines.index(indent + "}", begin)
+        bodies.append((at, begin, end, impl["type"] if is_method else None, found["name"]))
+    return bodies[::-1]
+
+
+def take_out_bodies(folder, crate, kept):
+    """Takes the bodies out of all functions of the crate in this folder but those kept, and leaves a hole for the proof of each. So
+    the prover makes next to nothing of them, and who calls them is proved by their contracts as before."""
+    files = {it: it.read_text().split("\n") for it in code_files(folder)}
+    paths = {it: it.relative_to(folder) for it in files}
+    homes = {}
+    for file, lines in files.items():
+        for found in filter(None, map(TYPE.match, lines)):
+            homes.setdefault(found[1], []).append(module_of(paths[file]))
+    for file, lines in files.items():
+        for head, begin, end, owner, name in bodies_in(lines):
+            home = homes.get(owner, []) if owner else [module_of(paths[file])]
+            if function_at(paths[file], lines, head) not in kept and len(home) == 1:
+                lines[begin + 1 : end] = ["unreachable!()"]
+                leave_a_hole(folder / "proofs", crate, [*home[0], *([owner] if owner else []), name])
+        file.write_text("\n".join(lines))
+
+
+def leave_a_hole(proofs, crate, path):
+    """Puts a hole in the place of what is written of a function's proof."""
+    own = proofs.joinpath(*path)
+    shutil.rmtree(own, ignore_errors=True)
+    own.mkdir(parents=True)
+    statement = f"use Rattle.{crate}.proofs.{'.'.join(path)}.Statement.{{statement}}"
+    (own / "Proof.antt").write_text(f"{statement}\n\npub {path[-1]}_spec : {{M : Type 1}} → statement M\n{path[-1]}_spec = ?\n")
