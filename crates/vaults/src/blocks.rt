@@ -8,7 +8,7 @@ ghost use Rattle.vaults.specs.InOrder.{without};
 ghost use Rattle.vaults.specs.Blocks.{begins_above};
 
 use crate::rows::{Row, place_of, place_to_put};
-use crate::shared_rows::{insert_row, part_rows, remove_row};
+use crate::shared_rows::{insert_row, part};
 use credential_text::Credential;
 use std::alloc::{AllocError, Global};
 use std::marker::Model;
@@ -70,10 +70,7 @@ impl Block {
         ensures above { result ≡ begins_above credential.now self.now }
         ensures some { 0 < length self.now }
     {
-        match self.rows().first() {
-            Some(first) => first.is_above(credential),
-            None => false,
-        }
+        self.rows()[0].compare(credential).is_gt()
     }
 
     /// Whether the credential is a row.
@@ -105,10 +102,10 @@ impl Block {
         ensures taken { OnOk result (self.new ≡ without credential_order credential.now self.old) }
         ensures unchanged { OnErr result (self.new ≡ self.old) }
     {
-        match place_of(self.rows(), credential) {
-            Ok(place) => remove_row(&mut self.rows, place),
-            Err(_) => Ok(()),
+        if let Ok(place) = place_of(self.rows(), credential) {
+            Arc::make_mut(&mut self.rows)?.remove(place);
         }
+        Ok(())
     }
 
     /// Keeps the rows before the place, and gives the others.
@@ -117,7 +114,7 @@ impl Block {
         ensures parted { IfOk result (λ rest. self.old ≡ self.new ++ rest) }
         ensures unchanged { OnErr result (self.new ≡ self.old) }
     {
-        let rows = part_rows(&mut self.rows, place)?;
+        let rows = part(Arc::make_mut(&mut self.rows)?, place)?;
         Ok(Block { rows })
     }
 }

@@ -223,11 +223,13 @@ impl Book {
     {
         let public = u64::from(self.is_public(who));
         match self.pages.get(who) {
-            Some(page) => Counts {
-                creds: page.rows_len() as u64,
-                grants: page.readers_len() as u64 + public,
-                changes: page.changes(),
-            },
+            Some(page) => {
+                let kept = page.counts();
+                Counts {
+                    grants: kept.grants + public,
+                    ..kept
+                }
+            }
             None => Counts {
                 creds: 0,
                 grants: public,

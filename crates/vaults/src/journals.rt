@@ -127,7 +127,7 @@ fn append_row(bytes: &mut Vec<u8>, kind: u8, tenant: &[u8], subject: &[u8])
     ensures len { vec_len bytes.new ≡ vec_len bytes.old + (length tenant.now + length subject.now + 5) }
     ensures capacity { vec_capacity bytes.old ≤ vec_capacity bytes.new }
 {
-    bytes.push(kind).unwrap();
+    bytes.push_reserved(kind);
     append_framed(bytes, tenant);
     append_framed(bytes, subject);
 }
@@ -149,7 +149,7 @@ fn append_framed(bytes: &mut Vec<u8>, text: &[u8])
     ensures len { vec_len bytes.new ≡ vec_len bytes.old + (length text.now + 2) }
     ensures capacity { vec_capacity bytes.old ≤ vec_capacity bytes.new }
 {
-    bytes.push((text.len() / 256) as u8).unwrap();
-    bytes.push((text.len() % 256) as u8).unwrap();
+    bytes.push_reserved((text.len() / 256) as u8);
+    bytes.push_reserved((text.len() % 256) as u8);
     bytes.extend_from_slice(text).unwrap();
 }

@@ -8,7 +8,7 @@ ghost use Rattle.vaults.specs.InOrder.{without};
 ghost use Rattle.vaults.specs.Blocks.{rows_in};
 
 use crate::blocks::Block;
-use crate::parted_rows::{has_row, put_row, take_row};
+use crate::parted_rows::{put_row, spot_of, take_row};
 use crate::versions::Version;
 use credential_text::Credential;
 use std::alloc::{AllocError, Global};
@@ -56,7 +56,11 @@ impl OwnRows {
     pub fn has(&self, credential: &Credential) -> bool
         ensures { result ≡ list_any (eq_by_cmp credential_order credential.now) self.now }
     {
-        has_row(&self.blocks, credential)
+        let blocks = &self.blocks;
+        if blocks.is_empty() {
+            return false;
+        }
+        blocks[spot_of(blocks, credential)].has(credential)
     }
 
     /// Puts the credential into its place, if it isn't there, and answers whether it wasn't.

@@ -8,11 +8,12 @@ ghost use Rattle.vaults.specs.Version.{version_rows};
 ghost use Rattle.vaults.specs.Page.{empty_page, page_after, page_fault, rows_after, is_due};
 ghost use Rattle.vaults.specs.declared.changes.Change.TheVariants.{Upload};
 
+use crate::books::Counts;
 use crate::changes::Change;
 use crate::faults::VaultFault;
 use crate::name_sets::NameSet;
 use crate::own_rows::OwnRows;
-use crate::versions::{Version, shared};
+use crate::versions::Version;
 use credential_text::Credential;
 use names::Entity;
 use std::alloc::{AllocError, Global};
@@ -64,11 +65,18 @@ impl Page {
         }
     }
 
-    /// How many rows the tenant's vault has.
-    pub fn rows_len(&self) -> usize
-        ensures { result ≡ length self.now.rows }
+    /// How many rows the tenant's vault has, how many readers there are, and how many of its changes were accepted.
+    pub fn counts(&self) -> Counts
+        ensures creds { result.creds ≡ length self.now.rows }
+        ensures grants { result.grants ≡ length self.now.readers }
+        ensures fits { result.grants < 2 ^ 63 }
+        ensures changes { result.changes ≡ self.now.changes }
     {
-        self.own.len()
+        Counts {
+            creds: self.own.len() as u64,
+            grants: self.readers.len() as u64,
+            changes: self.changes,
+        }
     }
 
     /// The version of the tenant's vault, to be held by others too; none where the vault is empty.
@@ -83,22 +91,7 @@ impl Page {
             let version = self.own.version()?;
             self.version = Some(Arc::new(alloc, version)?);
         }
-        shared(&self.version)
-    }
-
-    /// How many readers the tenant has.
-    pub fn readers_len(&self) -> usize
-        ensures count { result ≡ length self.now.readers }
-        ensures fits { result < 2 ^ 63 }
-    {
-        self.readers.len()
-    }
-
-    /// How many changes of the tenant were accepted.
-    pub fn changes(&self) -> u64
-        ensures { result ≡ self.now.changes }
-    {
-        self.changes
+        self.version.clone()
     }
 
     /// Whether the credential is a row of the tenant's vault.

@@ -16,18 +16,6 @@ use std::alloc::{AllocError, Global};
 /// With how many rows a block is made two, where memory doesn't lack.
 const FULL: usize = 512;
 
-/// Whether the credential is a row.
-pub fn has_row(blocks: &[Block], credential: &Credential) -> bool
-    requires { IsStrictlySortedBy credential_order (rows_in blocks.now) }
-    ensures { result ≡ list_any (eq_by_cmp credential_order credential.now) (rows_in blocks.now) }
-{
-    if blocks.is_empty() {
-        return false;
-    }
-    let spot = spot_of(blocks, credential);
-    blocks[spot].has(credential)
-}
-
 /// Puts the credential into its place, if it isn't there, and answers whether it wasn't.
 pub fn put_row(blocks: &mut Vec<Block>, credential: &Credential) -> Result<bool, AllocError>
     requires { IsStrictlySortedBy credential_order (rows_in blocks.old.items) }
@@ -65,7 +53,7 @@ pub fn take_row(blocks: &mut Vec<Block>, credential: &Credential) -> Result<(), 
 }
 
 /// Which block the credential is in or would be put into.
-fn spot_of(blocks: &[Block], credential: &Credential) -> usize
+pub fn spot_of(blocks: &[Block], credential: &Credential) -> usize
     requires { 0 < length blocks.now }
     ensures { IsSpot credential.now result blocks.now }
 {
@@ -107,6 +95,6 @@ fn halve_full(blocks: &mut Vec<Block>, spot: usize) -> Result<(), AllocError>
     blocks.try_reserve(1)?;
     let place = if spot == 0 { len - 1 } else { len / 2 };
     let rest = blocks[spot].split_off(place)?;
-    blocks.insert(spot, rest)?;
+    blocks.insert(spot, rest).unwrap();
     Ok(())
 }

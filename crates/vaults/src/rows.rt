@@ -1,6 +1,5 @@
 ghost use Rattle.std.specs.Prelude.{◌≡◌, ℕ, ◌<◌, ◌≤◌, length, IsTrue, IfOk, OnErr};
 ghost use Rattle.std.specs.Arc.{arc_value};
-ghost use Rattle.std.specs.Ordering.{is_lt};
 ghost use Rattle.std.specs.Prelude.{get_or};
 ghost use Rattle.std.specs.declared.cmp.Ordering.TheVariants.{Less};
 ghost use Rattle.credential_text.specs.declared.credentials.Credential.{Credential as AnyCredential};
@@ -130,13 +129,6 @@ impl Row {
             Ordering::Equal => self.body().compare(&credential.body),
             unequal => unequal,
         }
-    }
-
-    /// Whether the row is above the credential.
-    pub(crate) fn is_above(&self, credential: &Credential) -> bool
-        ensures { result ≡ is_lt (credential_order credential.now self.now) }
-    {
-        self.compare(credential).is_gt()
     }
 }
 

@@ -1,6 +1,6 @@
 //! Rows that others may hold too. A change is made of a copy then, so that what others hold never changes.
 ghost use Rattle.std.specs.Prelude.{◌≡◌, ◌++◌, ◌<◌, ◌≤◌, length, IfOk, OnOk, OnErr};
-ghost use Rattle.std.proofs.Common.{insert, remove};
+ghost use Rattle.std.proofs.Common.{insert};
 ghost use Rattle.std.specs.Arc.{arc_value};
 
 use crate::rows::Row;
@@ -25,28 +25,8 @@ pub fn insert_row(
     Ok(())
 }
 
-/// Takes the row at the place out.
-pub fn remove_row(held: &mut Arc<Vec<Row>>, place: usize) -> Result<(), AllocError>
-    requires { place < length (arc_value held.old).items }
-    ensures removed { OnOk result ((arc_value held.new).items ≡ remove (arc_value held.old).items place) }
-    ensures unchanged { OnErr result ((arc_value held.new).items ≡ (arc_value held.old).items) }
-{
-    Arc::make_mut(held)?.remove(place);
-    Ok(())
-}
-
-/// Keeps the rows before the place, and gives the others.
-pub fn part_rows(held: &mut Arc<Vec<Row>>, place: usize) -> Result<Arc<Vec<Row>>, AllocError>
-    requires { place ≤ length (arc_value held.old).items }
-    ensures parted { IfOk result (λ rest. (arc_value held.old).items ≡ (arc_value held.new).items ++ (arc_value rest).items) }
-    ensures kept { OnOk result (length (arc_value held.new).items ≡ place) }
-    ensures unchanged { OnErr result ((arc_value held.new).items ≡ (arc_value held.old).items) }
-{
-    part(Arc::make_mut(held)?, place)
-}
-
 /// Keeps the rows before the place, and gives the others, to be held by others too.
-fn part(rows: &mut Vec<Row>, place: usize) -> Result<Arc<Vec<Row>>, AllocError>
+pub fn part(rows: &mut Vec<Row>, place: usize) -> Result<Arc<Vec<Row>>, AllocError>
     requires { place ≤ length rows.old.items }
     ensures parted { IfOk result (λ rest. rows.old.items ≡ rows.new.items ++ (arc_value rest).items) }
     ensures kept { OnOk result (length rows.new.items ≡ place) }

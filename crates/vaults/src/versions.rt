@@ -3,13 +3,11 @@ ghost use Rattle.std.specs.List.{slice_get};
 ghost use Rattle.std.specs.List.Sorted.{IsStrictlySortedBy};
 ghost use Rattle.credential_text.specs.Credential.{credential_order};
 ghost use Rattle.vaults.specs.Blocks.{rows_in, starts_of, IsHolder};
-ghost use Rattle.vaults.specs.Version.{version_rows};
 
 use crate::blocks::Block;
 use crate::rows::Row;
 use std::alloc::{AllocError, Global};
 use std::marker::Model;
-use std::sync::Arc;
 
 /// The rows of a tenant's vault at one time: credentials in order, each once. Seen as their list. Shared versions never
 /// change: what holds one has its rows, whatever becomes of the vault. They stand in blocks, the last block first, and with
@@ -59,16 +57,6 @@ impl Version {
             starts: &self.starts,
             count: self.count,
         }
-    }
-}
-
-/// The version once more, to be held beside the first: no row is copied.
-pub fn shared(held: &Option<Arc<Version>>) -> Result<Option<Arc<Version>>, AllocError>
-    ensures { IfOk result (λ version. version_rows version ≡ version_rows held.now) }
-{
-    match held {
-        Some(version) => Ok(Some(Arc::try_clone(version)?)),
-        None => Ok(None),
     }
 }
 

@@ -12,21 +12,21 @@ counted false = refl
 
 pub returns-in-Some-clause-creds : goal.returns-in-Some-clause-creds
 returns-in-Some-clause-creds c =
-    c.rows_len.ensures
+    c.counts-kept.ensures.creds
     ∙ ap (λ (k : PageState). length k.rows) (page_found c.self.inside.journal.kept.0 c.self.inside.pages c.args.who.now _ c.self.invariant.pages_are c.in-Some.ensures.value)
     ∙ ap (λ (j : List Entry). length (vault j c.args.who.now)) c.self.view_is
 
 pub returns-in-Some-clause-grants : goal.returns-in-Some-clause-grants
 returns-in-Some-clause-grants c =
-    let one_each : c.readers_len.result ≡ length (readers c.args.self.now c.args.who.now) =
-    c.readers_len.ensures.count
+    let one_each : c.counts-kept.result.grants ≡ length (readers c.args.self.now c.args.who.now) =
+    c.counts-kept.ensures.grants
     ∙ ap (λ (k : PageState). length k.readers) (page_found c.self.inside.journal.kept.0 c.self.inside.pages c.args.who.now _ c.self.invariant.pages_are c.in-Some.ensures.value)
     ∙ ap (λ (j : List Entry). length (readers j c.args.who.now)) c.self.view_is in
     omega (arith, one_each, c.from-public.ensures, counted c.is_public.result, ap one_if c.is_public.ensures)
 
 pub returns-in-Some-clause-changes : goal.returns-in-Some-clause-changes
 returns-in-Some-clause-changes c =
-    c.changes.ensures
+    c.counts-kept.ensures.changes
     ∙ ap (λ (k : PageState). k.changes) (page_found c.self.inside.journal.kept.0 c.self.inside.pages c.args.who.now _ c.self.invariant.pages_are c.in-Some.ensures.value)
     ∙ ap (λ (j : List Entry). length (entries_of c.args.who.now j)) c.self.view_is
 
