@@ -53,14 +53,7 @@ impl Nodes {
     }
 
     /// The number of the expression's node, if it has one.
-    pub fn number(&self, expr: &Expr) -> Option<u32>
-        ensures { MatchOption result (Contains self.now expr.now → ⊥) (λ n. slice_get self.now n ≡ Some expr.now) }
-    {
-        self.place(NodeExpr::of(expr))
-    }
-
-    // The number of the expression's node, which is looked up as it is lent.
-    fn place(&self, expr: NodeExpr<'_>) -> Option<u32>
+    pub fn number(&self, expr: NodeExpr<'_>) -> Option<u32>
         ensures { MatchOption result (Contains self.now (expr_lent expr.entry) → ⊥)
             (λ n. slice_get self.now n ≡ Some (expr_lent expr.entry)) }
     {
@@ -132,7 +125,7 @@ impl Nodes {
     pub fn entity_number(&self, who: &Entity) -> Option<u32>
         ensures { MatchOption result (Contains self.now (exprs.Ent who.now) → ⊥) (λ k. slice_get self.now k ≡ Some (exprs.Ent who.now)) }
     {
-        self.place(NodeExpr::Ent(who))
+        self.number(NodeExpr::Ent(who))
     }
 
     /// The entity of this number.

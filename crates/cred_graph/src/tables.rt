@@ -90,15 +90,20 @@ impl Tables {
     pub fn clear(&mut self)
         ensures { self.new ≡ ([], []) }
     {
-        let kept_lists = kept_when_empty(self.lists.len(), self.lists.capacity());
-        self.lists.clear();
-        self.lists.shrink_to(kept_lists);
-        let kept_far = kept_when_empty(self.far.len(), self.far.capacity());
-        self.far.clear();
-        self.far.shrink_to(kept_far);
-        let kept_reasons = kept_when_empty(self.reasons.len(), self.reasons.capacity());
-        self.reasons.clear();
-        self.reasons.shrink_to(kept_reasons);
+        let Tables {
+            lists,
+            far,
+            reasons,
+        } = self;
+        let kept = kept_when_empty(lists.len(), lists.capacity());
+        lists.clear();
+        lists.shrink_to(kept);
+        let kept = kept_when_empty(far.len(), far.capacity());
+        far.clear();
+        far.shrink_to(kept);
+        let kept = kept_when_empty(reasons.len(), reasons.capacity());
+        reasons.clear();
+        reasons.shrink_to(kept);
     }
 
     /// The listeners of the node.

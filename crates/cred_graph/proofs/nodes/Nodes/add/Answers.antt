@@ -23,14 +23,13 @@ pushed c =
 pub invariant_of-self-2 : goal.invariant_of-self-2
 invariant_of-self-2 c = short_pushed c.self.inside.exprs.keys _ c.args.expr.now (rw (← c.len-number.ensures.len) c.if-number-ge-MOST.false) (pushed c)
 
-pub returns-clause-number : goal.returns-clause-number
-returns-clause-number c = c.len-number.ensures.len ∙ ap length c.self.view_is
-
-pub returns-clause-added : goal.returns-clause-added
-returns-clause-added c = rw (← c.self.view_is) (pushed c)
-
-pub returns-clause-range : goal.returns-clause-range
-returns-clause-range c = c.in_ok-keep.ensures.range
+pub returns : goal.returns
+returns c = record {
+  number = c.len-number.ensures.len ∙ ap length c.self.view_is;
+  added = rw (← c.self.view_is) (pushed c);
+  range = c.in_ok-keep.ensures.range;
+  unchanged = tt;
+}
 
 pub returns-then-number-ge-MOST : goal.returns-then-number-ge-MOST
 returns-then-number-ge-MOST c = record { number = tt; added = tt; range = tt; unchanged = refl }
@@ -56,6 +55,3 @@ returns-in_err-_is_new c = record {
   range = IfOk-from_err c.from_residual-in_err-_is_new.result _ c.from_residual-in_err-_is_new.ensures.0;
   unchanged = on_err c.from_residual-in_err-_is_new.result (c.in_err-_is_new.ensures.err ∙ c.self.view_is);
 }
-
-pub returns-clause-unchanged : goal.returns-clause-unchanged
-returns-clause-unchanged c = tt

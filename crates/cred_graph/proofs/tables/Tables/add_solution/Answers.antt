@@ -52,3 +52,6 @@ returns-in_ok-add_member-in-Vacant-clause-ok c =
     let at = goal.at.returns-in_ok-add_member-in-Vacant-clause-ok c in
     let lacks = none at.In-Vacant in
     rw (← c.self.view_is) (no_value c.self.inside.reasons.entries (c.args.node, c.args.who) lacks, added at.After-self-in-Vacant-1 lacks)
+
+pub returns-in_ok-add_member-in-Vacant-clause-listeners : goal.returns-in_ok-add_member-in-Vacant-clause-listeners
+returns-in_ok-add_member-in-Vacant-clause-listeners c = rw (← c.self.view_is) c.in_ok-add_member-in-Vacant.ensures.listeners

@@ -3,7 +3,7 @@ use Rattle.credential_text.proofs.Equality.{exprs_decided}
 use Rattle.credential_text.specs.contracts.exprs.ExprPartialEq.TheImpl as expr
 use Rattle.cred_graph.specs.KeptExpr.{expr_lent}
 use Rattle.cred_graph.proofs.Lookups.{stands_at, not_found}
-use Rattle.cred_graph.proofs.nodes.Nodes.place.Goals as goal
+use Rattle.cred_graph.proofs.nodes.Nodes.number.Goals as goal
 
 pub returns-in-Some : goal.returns-in-Some
 returns-in-Some c =
