@@ -17,7 +17,7 @@ set -eu
 if [ "${1-}" = --sample ]; then
     MOST_RUNS=20
     set -- proof_trees:each_graph_answers_its_lines proof_trees:monitors_hear_each_once proof_trees:of_search:: \
-        service:a_linked_role_with_its_proof service:a_whole_life_of_a_search
+        pool:a_linked_role_with_its_proof pool:a_whole_life_of_a_search
 fi
 root=$(cd "$(dirname "${BASH_SOURCE[0]}")/.." && pwd)
 work=$(mktemp -d)

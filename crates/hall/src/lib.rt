@@ -36,7 +36,7 @@ pub use jobs::Job;
 pub use lists::{Listed, Names, Rows, Sights};
 pub use open_searches::{proof_of, told_of};
 pub use orders::{Next, Order, Visit};
-pub use proof_trees::{Proof, check_proof, write_proof};
+pub use proof_trees::{Proof, write_proof};
 pub use remains::Remains;
 pub use run_laws::{
     answers_are_true, refusals_come_first, runs_are_allowed, scripts_are_exact,

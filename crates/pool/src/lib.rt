@@ -11,6 +11,8 @@
 #![tactic(auto)]
 
 mod bells;
+#[cfg(test)]
+mod desk_tests;
 mod desks;
 mod faults;
 mod histories;
@@ -21,6 +23,10 @@ mod rights;
 mod rooms;
 mod seats;
 mod tallies;
+#[cfg(test)]
+mod tests;
+#[cfg(test)]
+mod tests_below;
 mod turns;
 mod verdicts;
 mod visits;

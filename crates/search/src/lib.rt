@@ -25,6 +25,5 @@ pub use letters::{Held, Load};
 pub use outcomes::{Finished, Status};
 pub use queries::{Hint, Need, Query, Task};
 pub use searches::Search;
-pub use snapshots::Span;
 pub use stages::Stage;
 pub use tables::Tables;

@@ -26,8 +26,6 @@ mod scripts;
 mod serving;
 mod sessions;
 mod speakers;
-#[cfg(test)]
-mod tests_below;
 mod words;
 mod writing;
 
