@@ -6,7 +6,7 @@
 A function is proved by its own contract and by those of what it calls, so whether a wrong body is refused doesn't depend on
 what stands in other bodies. So the edits of a crate are applied to one copy of it, all that turn different functions at once, and
 the bodies of all other functions are taken out of that copy, with a hole for the proof of each (checks/functions.py): one process
-proves what was turned, and next to nothing else. Each function that was turned has to be refused by a goal of its own: that something
+proves what was turned, and next to nothing else. (Where a definition changes, bodies stay.) Each function that was turned has to be refused by a goal of its own: that something
 which it calls isn't proved is no refusal, nor is a name that a proof lacks. Of other functions none may be refused, so a body
 that is gone is no reason either. What isn't refused so is tried once more, in a round that hasn't begun or in one with others of its
 kind, and then alone; and alone is tried at once what changes a line outside functions. A crate's first such round keeps what it
@@ -59,15 +59,19 @@ class Hunk:
 
 @dataclasses.dataclass
 class Edit:
-    """A wrong body: what it replaces, the functions at one of which it has to be refused, and those whose bodies it turns."""
+    """A wrong body: what it replaces, the functions at one of which it has to be refused, and whether it changes a line outside
+    functions, as of a definition."""
 
     name: str
     hunks: list
     functions: set
-    turned: set
-    is_alone: bool = False
+    is_outside: bool = False
     is_long: bool = False
     tries: int = 0  # beside others, by which it wasn't refused
+
+    @property
+    def is_alone(self):
+        return self.is_outside or self.is_long
 
     def fits_beside(self, other):
         """Whether each of the two would be refused as it is alone, as far as can be told without a try."""
@@ -114,9 +118,7 @@ def read_edit(folder, file):
         raise BadEdit("it changes nothing")
     if not places and functions == {None}:
         raise BadEdit("it turns no function's body, so it needs a line `# at FUNCTION`")
-    is_alone = is_long or bool(places) or None in functions
-    turned = functions - {None}
-    return Edit(file.stem, hunks, places or turned, turned, is_alone, is_long)
+    return Edit(file.stem, hunks, places or functions - {None}, bool(places) or None in functions, is_long)
 
 
 def rounds_of(edits):
@@ -132,7 +134,8 @@ def rounds_of(edits):
 
 
 def copy_with(edits, crate, room):
-    """Copies the crate's sources to the room, with these edits applied, and without the bodies of functions that they don't speak of."""
+    """Copies the crate's sources to the room, with these edits applied. Where these turn bodies alone, those of other functions are
+    taken out."""
     for part in PARTS:
         if (crate.folder / part).is_dir():
             shutil.copytree(crate.folder / part, room / part)
@@ -143,7 +146,8 @@ def copy_with(edits, crate, room):
             if it.path == path:
                 lines[it.begin : it.end] = it.lines
         (room / path).write_text("\n".join(lines))
-    take_out_bodies(room, crate.name, {name for edit in edits for name in edit.functions | edit.turned})
+    if not any(it.is_outside for it in edits):
+        take_out_bodies(room, crate.name, {name for edit in edits for name in edit.functions})
 
 
 def try_at_once(crate, edits, toolchain, kept, jobs):
@@ -174,9 +178,9 @@ def verdicts_of(crate, function, said):
 
 
 def folder_of(edit, path):
-    """Where the goals stand by which an edit is refused at a function: alone anywhere, since a definition is refused by the lemmas that
-    speak of it."""
-    return "./proofs/" if edit.is_alone else f"./proofs/{path.replace('::', '/')}/"
+    """Where the goals stand by which an edit is refused at a function: anywhere, where it changes a definition, since the lemmas that
+    speak of that refuse it."""
+    return "./proofs/" if edit.is_outside else f"./proofs/{path.replace('::', '/')}/"
 
 
 def refused_elsewhere(crate, edits, said):

@@ -33,8 +33,9 @@ def function_at(path, lines, at):
 
 def bodies_in(lines):
     """The bodies of functions that can be taken out of a file's lines, the last one first: for each the lines of its head and of its
-    braces, the type whose method it is, or None, and its name. Left are those of traits, whose laws speak of their methods, and
-    of constant functions and `main`, which more than their callers read."""
+    braces, the type whose method it is, or None, and its name. Left are those of traits, whose laws speak of their methods, of
+    constant functions and `main`, which more than their callers read, and of functions that call themselves, whose proof is
+    another's too."""
     bodies, block = [], ""
     for at, line in enumerate(lines):
         if line[:1].strip():
@@ -49,6 +50,9 @@ def bodies_in(lines):
         if lines[begin].endswith("}"):
             continue
         end = lines.index(indent + "}", begin)
+        calls_itself = re.compile(rf"(?:(?<![\w.:])|\b(?:self\.|Self::)){found['name']}\(")
+        if any(map(calls_itself.search, lines[begin + 1 : end])):
+            continue
         bodies.append((at, begin, end, impl["type"] if is_method else None, found["name"]))
     return bodies[::-1]
 
