@@ -31,6 +31,23 @@ def function_at(path, lines, at):
     return None
 
 
+def braces_of(lines, at):
+    """The lines with the braces of the function that begins at this line; None where nothing stands between them, or all in one line."""
+    indent = FUNCTION.match(lines[at])[1]
+    ends_of_head = (lines[at], indent + ")", indent + ">")
+    for begin in range(at, len(lines)):
+        if lines[begin] == indent + "{}" or (begin == at and lines[at].endswith("}")):
+            return None
+        if lines[begin] == indent + "{" or (lines[begin].endswith(" {") and lines[begin].startswith(ends_of_head)):
+            return begin, lines.index(indent + "}", begin)
+
+
+def calls(lines, name):
+    """Whether these lines call a function of this name, or a method of their own `self`."""
+    call = re.compile(rf"(?:(?<![\w.:])|\b(?:self\.|Self::)){name}\(")
+    return any(map(call.search, lines))
+
+
 def bodies_in(lines):
     """The bodies of functions that can be taken out of a file's lines, the last one first: for each the lines of its head and of its
     braces, the type whose method it is, or None, and its name. Left are those of traits, whose laws speak of their methods, of
@@ -40,20 +57,13 @@ def bodies_in(lines):
     for at, line in enumerate(lines):
         if line[:1].strip():
             block = line
-        impl, found = IMPL.match(block), FUNCTION.match(line)
-        is_method = bool(found and found[1])
-        if not found or line.endswith("}") or found["constant"] or found["name"] == "main" or (is_method and (not impl or impl["trait"])):
+        found, impl = FUNCTION.match(line), IMPL.match(block)
+        if not found or found["constant"] or found["name"] == "main":
             continue
-        indent = found[1]
-        ends_head = (indent + ")", indent + ">", line)
-        begin = next(it for it in range(at, len(lines)) if lines[it] in (indent + "{", indent + "{}") or (lines[it].endswith(" {") and lines[it].startswith(ends_head)))
-        if lines[begin].endswith("}"):
-            continue
-        end = lines.index(indent + "}", begin)
-        calls_itself = re.compile(rf"(?:(?<![\w.:])|\b(?:self\.|Self::)){found['name']}\(")
-        if any(map(calls_itself.search, lines[begin + 1 : end])):
-            continue
-        bodies.append((at, begin, end, impl["type"] if is_method else None, found["name"]))
+        is_method = found[1] != ""
+        braces = braces_of(lines, at) if not is_method or (impl and not impl["trait"]) else None
+        if braces and not calls(lines[braces[0] + 1 : braces[1]], found["name"]):
+            bodies.append((at, *braces, impl["type"] if is_method else None, found["name"]))
     return bodies[::-1]
 
 
