@@ -86,9 +86,10 @@ def take_out_bodies(folder, crate, kept):
 
 
 def leave_a_hole(proofs, crate, path):
-    """Puts a hole in the place of what is written of a function's proof."""
+    """Puts a hole in the place of what is written of a function's proof, and of its closures'."""
     own = proofs.joinpath(*path)
-    shutil.rmtree(own, ignore_errors=True)
+    for it in (own, own.parent / "fn" / own.name):
+        shutil.rmtree(it, ignore_errors=True)
     own.mkdir(parents=True)
     statement = f"use Rattle.{crate}.proofs.{'.'.join(path)}.Statement.{{statement}}"
-    (own / "Proof.antt").write_text(f"{statement}\n\npub {path[-1]}_spec : {{M : Type 1}} → statement M\n{path[-1]}_spec = ?\n")
+    (own / "Proof.antt").write_text(f"{statement}\n\npub {own.name}_spec : {{M : Type 1}} → statement M\n{own.name}_spec = ?\n")
