@@ -6,15 +6,16 @@
 A function is proved by its own contract and by those of what it calls, so whether a wrong body is refused doesn't depend on
 what stands in other bodies. So the edits of a crate are applied to one copy of it, all that turn different functions at once, and
 the bodies of all other functions are taken out of that copy, with a hole for the proof of each (checks/functions.py): one process
-proves what was turned, and next to nothing else. (Where a definition changes, bodies stay.) Each function that was turned has to be refused by a goal of its own: that something
-which it calls isn't proved is no refusal, nor is a name that a proof lacks. Of other functions none may be refused, so a body
-that is gone is no reason either. What isn't refused so is tried once more, in a round that hasn't begun or in one with others of its
-kind, and then alone; and alone is tried at once what changes a line outside functions. A crate's first such round keeps what it
-proves, and each later one begins with that. Half of the processors are left to `rt ci` while it goes on, and each round takes
-one, since a second makes a third more work of it; then one of several edits takes more, where no other waits. An edit that
-turns no function's body, but a definition or a type, has a line `# at FUNCTION`, and has to be refused there. One for which
-the prover looks for minutes has a line `# long`, and is tried alone, beside its crate's first round. The other `#` line is for
-docs/EDITS.md (checks/index.py). `rt ci` and `rt must-fail NAME` try each edit in a process of its own, which loads the crates
+proves what was turned, and next to nothing else. Each function that was turned has to be refused by a goal of its own: that
+something which it calls isn't proved is no refusal, nor is a name that a proof lacks. Where an answer or a lemma of anything else
+is refused, nothing counts, since a body that is gone could be the reason. What isn't refused so is tried once more, in a round
+that hasn't begun or in one with others of its kind, and then alone. What changes a line outside functions, as of a definition, is tried
+alone at once, in a copy with all bodies, and may be refused by any goal, since lemmas speak of definitions. A crate's first
+round keeps what it proves, and each later one begins with that. Half of the processors are left to `rt ci` while it goes on, and
+each round takes one, since a second makes a third more work of it; then one of several edits takes more, where no other waits. An
+edit that turns no function's body, but a definition or a type, has a line `# at FUNCTION`, and has to be refused there. One for
+which the prover looks for minutes has a line `# long`, and is tried alone, beside its crate's first round. The other `#` line is
+for docs/EDITS.md (checks/index.py). `rt ci` and `rt must-fail NAME` try each edit in a process of its own, which loads the crates
 below each time, and over the crate as it stands.
 
 The crates below are taken from FOLDER/crates/NAME/out/rlib, as `rt ci` leaves them while it goes on there and writes what it says
@@ -184,8 +185,9 @@ def folder_of(edit, path):
 
 
 def refused_elsewhere(crate, edits, said):
-    """The goals that the prover refuses, which said this, of functions and lemmas that none of these edits turns."""
-    folders = tuple(folder_of(edit, path) for edit in edits for function in edit.functions for path, _ in verdicts_of(crate, function, said))
+    """What the prover, which said this, refuses in proof files of functions that none of these edits turns, and in lemmas."""
+    turned = [(edit, path) for edit in edits for function in edit.functions for path, _ in verdicts_of(crate, function, said)]
+    folders = tuple(folder_of(edit, path) for edit, path in turned)
     return [it for it in said if it.startswith("./proofs/") and ": error" in it and not it.startswith(folders)]
 
 
