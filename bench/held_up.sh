@@ -18,7 +18,7 @@ printf '%s\n' 'tenant Wide word 100000 10 10 1000000 1000000 10000000' 'tenant C
     'tenant Dense word 100000 10 64 1000000 1000000 10000000' 'tenant Short word' begin > "$work/roster"
 
 # as the launcher has it
-export MALLOC_ARENA_MAX=1 GLIBC_TUNABLES=glibc.malloc.hugetlb=1:glibc.malloc.mmap_threshold=1048576:glibc.malloc.trim_threshold=134217728
+export MALLOC_ARENA_MAX=1 GLIBC_TUNABLES=glibc.malloc.hugetlb=1:glibc.malloc.mmap_threshold=2097152:glibc.malloc.trim_threshold=134217728
 
 # compute: goes on until it is ended.
 compute() { while :; do :; done; }

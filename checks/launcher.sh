@@ -131,7 +131,7 @@ builds_each_crate_once_and_runs_the_program() {
 
 # Right behind a build, and later. Who runs the program may say otherwise.
 tells_how_to_keep_memory() {
-    local given tunables=glibc.malloc.hugetlb=1:glibc.malloc.mmap_threshold=1048576:glibc.malloc.trim_threshold=134217728
+    local given tunables=glibc.malloc.hugetlb=1:glibc.malloc.mmap_threshold=2097152:glibc.malloc.trim_threshold=134217728
     make_tree
     for given in '' '' MALLOC_ARENA_MAX=2; do
         as=(env ${given:+"$given"})

@@ -77,7 +77,7 @@ impl Nodes {
         self.exprs.reserve(count as usize)
     }
 
-    /// Gives back the memory that nothing takes, where that is more than half.
+    /// Gives back the memory that nothing takes, of a small table where that is more than half.
     pub fn give_back(&mut self)
         ensures { self.new ≡ self.old }
     {

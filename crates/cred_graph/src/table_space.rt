@@ -32,10 +32,14 @@ pub fn kept_when_empty(taken: usize, room: usize) -> usize
     }
 }
 
-/// The room that a table keeps beyond what is taken: all of it, unless less than half is taken. Memory is given back only
-/// then, since a list has to be moved for it, which costs more than its last entries take.
+/// The room that a table keeps beyond what is taken, where memory is given back: none, if it is large, since its end is given back
+/// without a move; all of it, if it is small, unless less than half is taken, since the next search begins in it.
 pub fn kept_room(taken: usize, room: usize) -> usize
-    ensures { result ≡ (if nat_lt taken (room / 2) then 0 else 2 ^ 64 - 1) }
+    ensures { result ≡ (if nat_lt 4096 room || nat_lt taken (room / 2) then 0 else 2 ^ 64 - 1) }
 {
-    if taken < room / 2 { 0 } else { usize::MAX }
+    if SMALL < room || taken < room / 2 {
+        0
+    } else {
+        usize::MAX
+    }
 }

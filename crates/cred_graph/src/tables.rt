@@ -75,7 +75,7 @@ impl Tables {
         self.lists.reserve(more)
     }
 
-    /// Gives back the memory that nothing takes, where that is more than half of a table.
+    /// Gives back the memory that nothing takes, of a small table where that is more than half.
     pub fn give_back(&mut self)
         ensures { self.new ≡ self.old }
     {
