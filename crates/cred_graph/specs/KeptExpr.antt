@@ -8,9 +8,7 @@ use Rattle.cred_graph.specs.declared.node_exprs.NodeExpr.TheVariants as lent
 
 abbrev pub expr_kept : Kept → Expr
 expr_kept (kept.Ent who) = Ent who
-expr_kept (kept.Rol role) = Rol role.value
-expr_kept (kept.Link link) = Link link.value.0 link.value.1
-expr_kept (kept.Meet parts) = Meet parts
+expr_kept (kept.Far expr) = expr.value
 
 abbrev pub expr_lent : NodeExpr → Expr
 expr_lent (lent.Ent who) = Ent who.now

@@ -110,7 +110,7 @@ impl Graph {
         ensures node { MatchOption result (Contains self.now.nodes expr.now → ⊥) (λ n. IsNode self.now n expr.now) }
         ensures graph { IsGraph self.now }
     {
-        match self.nodes.number(NodeExpr::of(expr)) {
+        match self.nodes.number(expr) {
             Some(n) => Some(n as u64),
             None => None,
         }

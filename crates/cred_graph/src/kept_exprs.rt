@@ -1,18 +1,18 @@
-ghost use Rattle.std.specs.Prelude.{◌≡◌, IfOk};
+ghost use Rattle.std.specs.Prelude.{◌≡◌, IfOk, OnOk};
 ghost use Rattle.credential_text.specs.declared.exprs.Expr.{Expr};
 ghost use Rattle.credential_text.specs.Expr.{HasPartsInRange};
 ghost use Rattle.cred_graph.specs.KeptExpr.{expr_lent};
 
 use crate::node_exprs::NodeExpr;
-use credential_text::{Expr, Part, Parts};
+use credential_text::Expr;
 use indexmap::Equivalent;
-use names::{Entity, Role, RoleName};
+use names::Entity;
 use std::alloc::{AllocError, Global};
 use std::hash::{Hash, Hasher};
 use std::marker::Model;
 
 /// An expression as a graph keeps it, in 72 bytes: an entity, which nearly every node of a large graph is, stands in place, and
-/// a role behind an address.
+/// any other behind an address.
 #[derive(Drop)]
 pub struct KeptExpr {
     kept: Kept,
@@ -21,9 +21,7 @@ pub struct KeptExpr {
 #[derive(Drop)]
 enum Kept {
     Ent(Entity),
-    Rol(Box<Role>),
-    Link(Box<(Role, RoleName)>),
-    Meet(Parts),
+    Far(Box<Expr>),
 }
 
 impl Model for KeptExpr {
@@ -40,16 +38,11 @@ impl KeptExpr {
     /// A copy of the expression. That of an entity takes no memory.
     pub fn keep(alloc: Global, expr: &Expr) -> Result<KeptExpr, AllocError>
         ensures same { IfOk result (λ k. k ≡ expr.now) }
-        ensures range { HasPartsInRange expr.now }
+        ensures range { OnOk result (HasPartsInRange expr.now) }
     {
         let kept = match expr {
             Expr::Ent(who) => Kept::Ent(*who),
-            Expr::Rol(role) => Kept::Rol(Box::new(alloc, *role)?),
-            Expr::Link(base, name) => Kept::Link(Box::new(alloc, (*base, *name))?),
-            Expr::Meet(parts) => {
-                let _parts = parts.as_slice();
-                Kept::Meet(parts.try_clone()?)
-            }
+            _ => Kept::Far(Box::new(alloc, expr.try_clone()?)?),
         };
         Ok(KeptExpr { kept })
     }
@@ -61,12 +54,12 @@ impl KeptExpr {
     {
         match &self.kept {
             Kept::Ent(who) => NodeExpr::Ent(who),
-            Kept::Rol(role) => NodeExpr::Rol(role.as_ref()),
-            Kept::Link(link) => {
-                let (base, name) = link.as_ref();
-                NodeExpr::Link(base, name)
-            }
-            Kept::Meet(parts) => NodeExpr::Meet(parts),
+            Kept::Far(expr) => match expr.as_ref() {
+                Expr::Ent(who) => NodeExpr::Ent(who),
+                Expr::Rol(role) => NodeExpr::Rol(role),
+                Expr::Link(base, name) => NodeExpr::Link(base, name),
+                Expr::Meet(parts) => NodeExpr::Meet(parts),
+            },
         }
     }
 }
@@ -79,7 +72,10 @@ impl PartialEq for KeptExpr {
     ghost laws = { laws-law };
 
     fn eq(&self, other: &KeptExpr) -> bool {
-        self.lend() == other.lend()
+        match &self.kept {
+            Kept::Ent(who) => (&Expr::Ent(*who)).equivalent(other),
+            Kept::Far(expr) => expr.as_ref().equivalent(other),
+        }
     }
 }
 
@@ -90,38 +86,36 @@ impl Eq for KeptExpr {
 }
 
 impl Hash for KeptExpr {
-    ghost use Rattle.std.specs.Prelude.{◌++◌};
-    ghost use Rattle.std.specs.List.{flat_map};
-    ghost use Rattle.std.specs.Hash as fed;
-    ghost use Rattle.std.specs.Hash.{same_Alike};
-    ghost use Rattle.credential_text.specs.Expr.{plain_names, met_parts};
-    ghost use Rattle.credential_text.proofs.Equality.{exprs_decided};
+    ghost use Rattle.credential_text.specs.contracts.exprs.ExprHash.TheImpl.Laws.{respects_eq-law};
 
-    ghost hash_input = { λ e. flat_map (λ name. flat_map fed.u8 name ++ fed.u8 0) (plain_names e)
-        ++ flat_map ⟦<Part as Hash>⟧.hash_input (met_parts e) };
+    ghost hash_input = { ⟦<Expr as Hash>⟧.hash_input };
 
-    ghost respects_eq = { (same_Alike _ exprs_decided).fed };
+    ghost respects_eq = { respects_eq-law };
 
     fn hash<H: Hasher>(&self, state: &mut H) {
-        self.lend().hash(state);
+        match &self.kept {
+            Kept::Ent(who) => Expr::Ent(*who).hash(state),
+            Kept::Far(expr) => expr.as_ref().hash(state),
+        }
     }
 }
 
-// An expression is looked up as it is lent, without a copy.
-impl Equivalent<KeptExpr> for NodeExpr<'_> {
-    ghost use Rattle.std.proofs.Common.{ap};
-    ghost use Rattle.credential_text.proofs.Equality.{exprs_decided};
+// An expression is looked up as it is, without a copy.
+impl Equivalent<KeptExpr> for &Expr {
+    ghost use Rattle.credential_text.specs.contracts.exprs.ExprHash.TheImpl.Laws.{respects_eq-law};
     ghost use Rattle.credential_text.specs.contracts.exprs.ExprEq.TheImpl.Laws.{laws-law};
-    ghost use Rattle.cred_graph.specs.KeptExpr.{expr_lent};
 
-    ghost equivalent = { λ n. ⟦<Expr as PartialEq>⟧.eq (expr_lent n) };
+    ghost equivalent = { λ e. ⟦<Expr as PartialEq>⟧.eq e.now };
 
-    ghost respects_hash = { λ n e h. ap ⟦<KeptExpr as Hash>⟧.hash_input ((exprs_decided (expr_lent n) e).0 h) };
+    ghost respects_hash = { λ e. respects_eq-law e.now };
 
-    ghost respects_eq = { λ n. laws-law.congr (expr_lent n) };
+    ghost respects_eq = { λ e. laws-law.congr e.now };
 
     #[inline(always)]
     fn equivalent(&self, key: &KeptExpr) -> bool {
-        *self == key.lend()
+        match &key.kept {
+            Kept::Ent(other) => matches!(self, Expr::Ent(who) if who == other),
+            Kept::Far(other) => *self == other.as_ref(),
+        }
     }
 }

@@ -53,9 +53,8 @@ impl Nodes {
     }
 
     /// The number of the expression's node, if it has one.
-    pub fn number(&self, expr: NodeExpr<'_>) -> Option<u32>
-        ensures { MatchOption result (Contains self.now (expr_lent expr.entry) → ⊥)
-            (λ n. slice_get self.now n ≡ Some (expr_lent expr.entry)) }
+    pub fn number(&self, expr: &Expr) -> Option<u32>
+        ensures { MatchOption result (Contains self.now expr.now → ⊥) (λ n. slice_get self.now n ≡ Some expr.now) }
     {
         match self.exprs.get_index_of(expr) {
             Some(n) => Some(n as u32),
@@ -125,7 +124,7 @@ impl Nodes {
     pub fn entity_number(&self, who: &Entity) -> Option<u32>
         ensures { MatchOption result (Contains self.now (exprs.Ent who.now) → ⊥) (λ k. slice_get self.now k ≡ Some (exprs.Ent who.now)) }
     {
-        self.number(NodeExpr::Ent(who))
+        self.number(&Expr::Ent(*who))
     }
 
     /// The entity of this number.

@@ -19,6 +19,7 @@ const NEAR: usize = 8;
 /// The listeners of each node, each once and in order of adding, and the solutions of all nodes with their reasons, in
 /// order of adding. Entities are spoken of by number. A node's lists are its listeners and who its solutions are; listeners
 /// beyond the first ones of their node stand in a table too.
+#[derive(Drop)]
 pub struct Tables {
     lists: Vec<NodeLists>,
     far: IndexSet<(u32, KeptListening)>,
@@ -39,17 +40,6 @@ impl Model for Tables {
 
     ghost invariant = { λ t. AreFar (map (λ r. r.listeners.items) t.lists.items) t.far.keys
         × ((n : ℕ) → list_at (map (λ r. r.members.items) t.lists.items) n ≡ members_by n t.reasons.entries) };
-}
-
-// By hand, so that who holds them drops them by one call, whose proof stands here.
-impl Drop for Tables {
-    fn drop(self) {
-        let Tables {
-            lists: _lists,
-            far: _far,
-            reasons: _reasons,
-        } = self;
-    }
 }
 
 impl Tables {

@@ -1,5 +1,6 @@
 pub mod Part
 pub mod PartOrder
+pub mod Equality
 pub mod Expr
 pub mod Credential
 pub mod Spelling

@@ -1,14 +1,13 @@
 use Rattle.std.proofs.Common.{sym}
 use Rattle.credential_text.proofs.Equality.{exprs_decided}
 use Rattle.credential_text.specs.contracts.exprs.ExprPartialEq.TheImpl as expr
-use Rattle.cred_graph.specs.KeptExpr.{expr_lent}
 use Rattle.cred_graph.proofs.Lookups.{stands_at, not_found}
 use Rattle.cred_graph.proofs.nodes.Nodes.number.Goals as goal
 
 pub returns-in-Some : goal.returns-in-Some
 returns-in-Some c =
     rw (← c.self.view_is)
-    (stands_at expr.ghosts.eq exprs_decided c.self.inside.exprs.keys (expr_lent c.args.expr) c.in-Some.n (sym c.in-Some.ensures.index))
+    (stands_at expr.ghosts.eq exprs_decided c.self.inside.exprs.keys c.args.expr.now c.in-Some.n (sym c.in-Some.ensures.index))
 
 pub returns-in-None : goal.returns-in-None
-returns-in-None c = rw (← c.self.view_is) (not_found expr.ghosts.eq exprs_decided c.self.inside.exprs.keys (expr_lent c.args.expr) c.in-None.ensures.found)
+returns-in-None c = rw (← c.self.view_is) (not_found expr.ghosts.eq exprs_decided c.self.inside.exprs.keys c.args.expr.now c.in-None.ensures.found)
