@@ -9,7 +9,7 @@ use std::cmp::Ordering;
 use std::hash::{Hash, Hasher};
 
 /// What stands behind the arrow of a credential: who is given to the role in its head.
-#[derive(Drop, PartialEq, Eq)]
+#[derive(PartialEq, Eq)]
 pub enum Expr {
     /// An entity, whose one member is itself.
     Ent(Entity),
@@ -19,6 +19,18 @@ pub enum Expr {
     Link(Role, RoleName),
     /// An intersection: who is in every part.
     Meet(Parts),
+}
+
+// By hand, so that who holds one drops it by one call, whose proof stands here.
+impl Drop for Expr {
+    fn drop(self) {
+        match self {
+            Expr::Ent(_entity) => {}
+            Expr::Rol(_role) => {}
+            Expr::Link(_base, _name) => {}
+            Expr::Meet(_parts) => {}
+        }
+    }
 }
 
 impl Expr {
@@ -79,7 +91,7 @@ impl Expr {
     }
 }
 
-// By its names alone, which tell all but a few expressions apart.
+// By its names alone: how many there are tells an entity, a role and a linked role apart.
 impl Hash for Expr {
     ghost use Rattle.std.specs.Hash.{same_Alike};
     ghost use Rattle.credential_text.specs.Expr.{plain_names, met_parts};
