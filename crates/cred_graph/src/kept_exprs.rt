@@ -13,15 +13,24 @@ use std::marker::Model;
 
 /// An expression as a graph keeps it, in 72 bytes: an entity, which nearly every node of a large graph is, stands in place, and
 /// any other behind an address.
-#[derive(Drop)]
 pub struct KeptExpr {
     kept: Kept,
 }
 
-#[derive(Drop)]
 enum Kept {
     Ent(Entity),
     Far(Box<Expr>),
+}
+
+// By hand, so that who holds one drops it by one call, whose proof stands here.
+impl Drop for KeptExpr {
+    fn drop(self) {
+        let KeptExpr { kept } = self;
+        match kept {
+            Kept::Ent(_who) => {}
+            Kept::Far(_expr) => {}
+        }
+    }
 }
 
 impl Model for KeptExpr {

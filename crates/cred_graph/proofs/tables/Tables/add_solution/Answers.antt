@@ -38,7 +38,8 @@ returns-in_err-add_member-in-Vacant-clause-growth c = rw (← c.self.view_is) (o
 added : (c : After-self-in-Vacant-1) → lookup (solved_eq (c.args.node, c.args.who)) c.self.inside.reasons.entries ≡ None → c.self-in-Vacant-1.given.0.entries ≡ c.self.inside.reasons.entries ++ ((c.args.node, c.args.who), c.args.reason) ∷ []
 added c lacks =
     let there = sym (c.insert_entry-added.ensures.0 ∙ (rw c.in-Vacant.is at c.in_ok-_found.ensures.same_map)) in
-    let written = ap (λ (m : IndexMap _ _ _). m.entries) (c.self-in-Vacant-1.given.1 there ∙ c.insert_entry-added.ensures.1) ∙ (rw c.in-Vacant.is at c.in_ok-_found.ensures.update).1 c.args.reason in
+    let kept = ap (λ (m : IndexMap _ _ _). m.entries) (c.self-in-Vacant-1.given.1 there) in
+    let written = kept ∙ ap (λ (m : IndexMap _ _ _). m.entries) c.insert_entry-added.ensures.1 ∙ (rw c.in-Vacant.is at c.in_ok-_found.ensures.update).1 c.args.reason in
     entry_added c.self.inside.reasons.entries _ _ (c.args.node, c.args.who) c.args.reason lacks c.reserve-room.ensures.entries written
 
 pub invariant_of-self-in-Vacant : goal.invariant_of-self-in-Vacant
