@@ -6,7 +6,7 @@ import shutil
 from sources import code_files
 
 FUNCTION = re.compile(r"(\s*)(?:pub(?:\([^)]*\))? )?(?P<constant>const )?fn (?P<name>\w+)")
-IMPL = re.compile(r"impl(?:<.*?>)? (?:(?:\w+::)*(?P<trait>\w+)(?:<.*>)? for )?(?:\w+::)*(?P<type>\w+)")
+IMPL = re.compile(r"impl(?:<.*?>)? (?:(?:\w+::)*(?P<trait>\w+)(?:<(?P<of>\w+)>|<.*>)? for (?P<ref>&)?)?(?:\w+::)*(?P<type>\w+)")
 ITEM = re.compile(r"(pub(\([^)]*\))? )?(static|const|struct|enum|trait|mod|use) |\}")
 TYPE = re.compile(r"(?:pub(?:\([^)]*\))? )?(?:struct|enum) (\w+)")
 
@@ -18,12 +18,12 @@ def module_of(path):
 
 def function_at(path, lines, at):
     """The function that has this line, or None: by its module, or, since the prover names a method by its type's module, by its
-    type, which an impl's trait follows."""
+    type, which an impl's trait follows, and then what that is of."""
     for above in range(at, -1, -1):
         found = FUNCTION.match(lines[above])
         if found and found[1]:
             impl = next(it for it in map(IMPL.match, reversed(lines[:above])) if it)
-            return f"{impl['type']}{impl['trait'] or ''}::{found['name']}"
+            return f"{'Ref' if impl['ref'] else ''}{impl['type']}{impl['trait'] or ''}{impl['of'] or ''}::{found['name']}"
         if found:
             return "::".join([*module_of(path), found["name"]])
         if above < at and ITEM.match(lines[above]):
