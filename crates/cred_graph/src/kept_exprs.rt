@@ -1,4 +1,4 @@
-ghost use Rattle.std.specs.Prelude.{◌≡◌, IfOk, OnOk};
+ghost use Rattle.std.specs.Prelude.{◌≡◌, IfOk};
 ghost use Rattle.credential_text.specs.declared.exprs.Expr.{Expr};
 ghost use Rattle.credential_text.specs.Expr.{HasPartsInRange};
 ghost use Rattle.cred_graph.specs.KeptExpr.{expr_lent};
@@ -47,7 +47,7 @@ impl KeptExpr {
     /// A copy of the expression. That of an entity takes no memory.
     pub fn keep(alloc: Global, expr: &Expr) -> Result<KeptExpr, AllocError>
         ensures same { IfOk result (λ k. k ≡ expr.now) }
-        ensures range { OnOk result (HasPartsInRange expr.now) }
+        ensures range { HasPartsInRange expr.now }
     {
         let kept = match expr {
             Expr::Ent(who) => Kept::Ent(*who),
