@@ -9,7 +9,6 @@ pub mod Canonical
 pub mod Refused
 pub mod OrderLemmas
 pub mod Memory
-pub mod Equality
 pub mod Left
 pub mod Keeping
 pub mod PartLists

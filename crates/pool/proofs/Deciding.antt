@@ -10,7 +10,7 @@ use Rattle.credential_text.specs.declared.credentials.Credential.{Credential}
 use Rattle.credential_text.specs.declared.exprs.Expr.{Expr}
 use Rattle.credential_text.specs.declared.exprs.Expr.TheVariants.{Rol}
 use Rattle.credential_text.specs.contracts.exprs.ExprPartialEq.TheImpl as expr
-use Rattle.credential_text.proofs.Equality.{exprs_decided}
+use Rattle.credential_text.specs.Equality.{exprs_decided}
 use Rattle.rt0_rules.specs.Derivation.{Derives, credential}
 use Rattle.rt0_rules.specs.Membership.{IsMember}
 use Rattle.rt0_rules.specs.Asks.{Why, for_body, Asks, asks_body, asked_role as asked_itself}

@@ -4,7 +4,7 @@ use Rattle.std.specs.Bool.{Decides}
 use Rattle.std.specs.List.{Contains, list_any}
 use Rattle.std.proofs.lemmas.Bool.{and_parts, and_from}
 use Rattle.rt0_rules.proofs.Adding.{is_among, found_among}
-use Rattle.credential_text.proofs.Equality.{exprs_decided}
+use Rattle.credential_text.specs.Equality.{exprs_decided}
 use Rattle.rt0_rules.specs.declared.asks.Ask.{Ask}
 use Rattle.rt0_rules.specs.declared.asks.Why.{Why}
 use Rattle.rt0_rules.specs.declared.asks.Why.TheVariants.{Body, Base, Via, Part}

@@ -1,6 +1,6 @@
 use Rattle.std.proofs.Common.{◌∙◌, sym}
 use Rattle.credential_text.specs.declared.exprs.Expr.TheVariants.{Ent}
-use Rattle.credential_text.proofs.Equality.{exprs_decided}
+use Rattle.credential_text.specs.Equality.{exprs_decided}
 use Rattle.proof_trees.proofs.RuleLemmas.{leaf_found}
 use Rattle.proof_trees.proofs.checking.is_by_rule.Goals as goal
 

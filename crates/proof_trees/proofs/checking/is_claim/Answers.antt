@@ -1,6 +1,6 @@
 use Rattle.std.proofs.Common.{◌∙◌, sym}
 use Rattle.std.specs.Cmp.Lexicographic.{bytes_decides}
-use Rattle.credential_text.proofs.Equality.{exprs_decided}
+use Rattle.credential_text.specs.Equality.{exprs_decided}
 use Rattle.proof_trees.proofs.checking.is_claim.Goals as goal
 
 pub returns-then-eq : goal.returns-then-eq

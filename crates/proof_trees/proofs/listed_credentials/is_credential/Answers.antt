@@ -1,5 +1,5 @@
 use Rattle.std.proofs.Common.{◌∙◌, sym}
-use Rattle.credential_text.proofs.Equality.{exprs_decided}
+use Rattle.credential_text.specs.Equality.{exprs_decided}
 use Rattle.rt0_rules.proofs.SameTexts.{same_role}
 use Rattle.proof_trees.proofs.listed_credentials.is_credential.Goals as goal
 

@@ -1,5 +1,5 @@
 use Rattle.std.proofs.Common.{sym}
-use Rattle.credential_text.proofs.Equality.{exprs_decided}
+use Rattle.credential_text.specs.Equality.{exprs_decided}
 use Rattle.credential_text.specs.contracts.exprs.ExprPartialEq.TheImpl as expr
 use Rattle.cred_graph.proofs.Lookups.{stands_at, not_found}
 use Rattle.cred_graph.proofs.nodes.Nodes.number.Goals as goal

@@ -1,2 +1,0 @@
--- What `==` finds of expressions.
-pub use Rattle.credential_text.specs.Equality.{exprs_decided}
