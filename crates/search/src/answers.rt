@@ -6,8 +6,7 @@ ghost use Rattle.cred_graph.specs.Graph.{IsGraph, NodeGiven, Fits, IsNode};
 ghost use Rattle.cred_graph.specs.Numbers.{IsPort, port_at, IsEntity, IsReason, entity_at, reason_at};
 ghost use Rattle.credential_text.specs.declared.exprs.Expr.{Expr};
 ghost use Rattle.search.specs.Answers.{new_monitor, AsksFor, Solves, HearsAsk, TellsLast, TellsBase};
-ghost use Rattle.search.specs.Answers.{TellsPart, MayTakeIn, TakesIn, AsksEach};
-ghost use Rattle.search.specs.Answers.{row_asks, part_asks, own_rows, Opens, progress, AnswersAsk, Answers, Awaits};
+ghost use Rattle.search.specs.Answers.{TellsPart, AsksEach, row_asks, part_asks, own_rows, Opens, progress, Answers, Awaits};
 ghost use Rattle.search.specs.Numbered.{IsMonitor, monitor_at};
 ghost use Rattle.names.specs.declared.roles.Role.{Role};
 ghost use Rattle.credential_text.specs.declared.exprs.Expr.TheVariants as exprs;
@@ -53,12 +52,11 @@ pub(crate) fn node_for(found: &mut Findings, expr: &Expr) -> Result<u64, AllocEr
     ensures laws { IsGraph found.new.graph }
 {
     let (node, is_new) = found.graph.node_of(expr)?;
-    if !is_new {
-        return Ok(node);
+    if is_new {
+        found.monitors.reserve(1)?;
+        let monitor = monitor_for(*found.monitors.allocator(), expr);
+        found.monitors.push_reserved(monitor);
     }
-    found.monitors.reserve(1)?;
-    let monitor = monitor_for(*found.monitors.allocator(), expr);
-    found.monitors.push_reserved(monitor);
     Ok(node)
 }
 
@@ -85,12 +83,11 @@ pub(crate) fn solve(
     ensures { OnOk result (Solves found.old found.new node
         (entity_at found.old.graph.nodes who) (reason_at found.old.graph.nodes reason)) }
 {
-    if !found.graph.add_numbered_solution(node, who, reason)? {
-        return Ok(());
-    }
-    for place in 0..found.graph().listeners(node) {
-        let (asker, port) = found.graph().numbered_listener(node, place);
-        found.send(asker, Load::Tell(port, who))?;
+    if found.graph.add_numbered_solution(node, who, reason)? {
+        for place in 0..found.graph().listeners(node) {
+            let (asker, port) = found.graph().numbered_listener(node, place);
+            found.send(asker, Load::Tell(port, who))?;
+        }
     }
     Ok(())
 }
@@ -107,12 +104,11 @@ pub(crate) fn hear_ask(
     requires port { IsPort found.old.graph.nodes port }
     ensures { OnOk result (HearsAsk found.old found.new node asker (port_at found.old.graph.nodes port)) }
 {
-    if !found.graph.add_numbered_listener(node, asker, port)? {
-        return Ok(());
-    }
-    for place in 0..found.graph().solutions(node) {
-        let who = found.graph().numbered_solution(node, place);
-        found.send(asker, Load::Tell(port, who))?;
+    if found.graph.add_numbered_listener(node, asker, port)? {
+        for place in 0..found.graph().solutions(node) {
+            let who = found.graph().numbered_solution(node, place);
+            found.send(asker, Load::Tell(port, who))?;
+        }
     }
     Ok(())
 }
@@ -158,33 +154,6 @@ fn told_part(found: &mut Findings, node: u64, part: u8, who: u32) -> Result<(), 
         Ok(true) => solve(found, node, who, Reason::Parts),
         Ok(false) => Ok(()),
         Err(refusal) => Err(refusal),
-    }
-}
-
-// The node is told on a port, by the node that it listens to, that the entity is a member.
-pub(crate) fn take_in(
-    found: &mut Findings,
-    node: u64,
-    from: u64,
-    port: Port<u32>,
-    who: u32,
-) -> Result<(), AllocError>
-    requires node { node < length found.old.graph.nodes }
-    requires port { IsPort found.old.graph.nodes port }
-    requires entity { IsEntity found.old.graph.nodes who }
-    requires may { MayTakeIn found.old.graph found.old.monitors node from
-        (port_at found.old.graph.nodes port) (entity_at found.old.graph.nodes who) }
-    ensures { OnOk result (TakesIn found.old found.new node from
-        (port_at found.old.graph.nodes port) (entity_at found.old.graph.nodes who)) }
-{
-    match port {
-        Port::Body => {
-            let body = found.graph().short(from);
-            solve(found, node, who, Reason::Body(body))
-        }
-        Port::Via(base) => solve(found, node, who, Reason::Via(base)),
-        Port::Base => told_base(found, node, who),
-        Port::Part(part) => told_part(found, node, part, who),
     }
 }
 
@@ -269,30 +238,8 @@ pub(crate) fn open(
     }
 }
 
-// A node is asked on a port: at its first Ask it opens; then the asker listens to it. The asked role's node was opened by
-// the environment.
-fn asked(
-    found: &mut Findings,
-    snapshot: &Snapshot,
-    node: u64,
-    asker: u64,
-    port: Port<u32>,
-    looked_up: Option<&Span>,
-) -> Result<(), AllocError>
-    requires node { node < length found.old.graph.nodes }
-    requires asker { asker < length found.old.graph.nodes }
-    requires port { IsPort found.old.graph.nodes port }
-    requires span { (e : Expr) → IsNode found.old.graph node e → IsSpanFor snapshot.now.vaults e (option_copied looked_up) }
-    ensures { OnOk result (AnswersAsk snapshot.now.vaults found.old found.new node asker (port_at found.old.graph.nodes port)) }
-{
-    if node != 0 && found.graph().listeners(node) == 0 {
-        open(found, snapshot, node, looked_up)?;
-    }
-    hear_ask(found, node, asker, port)
-}
-
 // The receiver of the letter receives it, with the rows that its finisher looked up, and puts what it sends into the list.
-// The environment's letter opens the asked role's node.
+// The environment's letter opens the asked role's node, and its first Ask any other. What is told is taken in by its port.
 pub(crate) fn receive(
     found: &mut Findings,
     snapshot: &Snapshot,
@@ -308,12 +255,26 @@ pub(crate) fn receive(
     ensures { OnOk result (Answers snapshot.now.vaults (progress found.old.graph found.old.monitors []) found.new
         held.now.from held.now.to (load_at found.old.graph.nodes held.now.load)) }
 {
+    let node = held.to;
     let Parent::Node(sender) = held.from else {
-        return open(found, snapshot, held.to, looked_up);
+        return open(found, snapshot, node, looked_up);
     };
     match held.load {
-        Load::Ask(port) => asked(found, snapshot, held.to, sender, port, looked_up),
-        Load::Tell(port, who) => take_in(found, held.to, sender, port, who),
+        Load::Ask(port) => {
+            if node != 0 && found.graph().listeners(node) == 0 {
+                open(found, snapshot, node, looked_up)?;
+            }
+            hear_ask(found, node, sender, port)
+        }
+        Load::Tell(port, who) => match port {
+            Port::Body => {
+                let body = found.graph().short(sender);
+                solve(found, node, who, Reason::Body(body))
+            }
+            Port::Via(base) => solve(found, node, who, Reason::Via(base)),
+            Port::Base => told_base(found, node, who),
+            Port::Part(part) => told_part(found, node, part, who),
+        },
         Load::Start => unreachable!(),
     }
 }

@@ -2,26 +2,13 @@
 ghost use Rattle.std.specs.Prelude.{◌≡◌, ◌<◌, ◌↔◌, length, option_copied, IsTrue};
 ghost use Rattle.credential_text.specs.declared.exprs.Expr.{Expr};
 ghost use Rattle.cred_graph.specs.Graph.{IsNode};
-ghost use Rattle.cred_graph.specs.KeptExpr.{expr_lent};
-ghost use Rattle.search.specs.Finish.{rows_for, need_for, need_of, right_hint};
+ghost use Rattle.search.specs.Finish.{need_for, need_of, right_hint};
 
 use crate::letters::{Held, Load};
 use crate::queries::Hint;
 use cred_graph::{Graph, NodeExpr};
 use names::Role;
 use snapshots::Snapshot;
-
-// The role that the expression is, if it is one.
-fn role_of(expr: NodeExpr<'_>) -> Option<&Role>
-    ensures { need_for (option_copied result) ≡ rows_for (expr_lent expr.entry) }
-{
-    match expr {
-        NodeExpr::Rol(role) => Some(role),
-        NodeExpr::Ent(_entity) => None,
-        NodeExpr::Link(_base, _name) => None,
-        NodeExpr::Meet(_parts) => None,
-    }
-}
 
 // The role whose rows are needed: a letter that asks a role needs its rows, and no other letter needs any.
 #[inline(always)]
@@ -31,10 +18,12 @@ pub(crate) fn role_needed<'a>(graph: &'a Graph, held: &Held<Load<u32>>) -> Optio
         × (need_for (option_copied result) ≡ need_of e held.now.load) }
 {
     let expr = graph.expr(held.to);
-    match held.load {
-        Load::Start => role_of(expr),
-        Load::Ask(_port) => role_of(expr),
-        Load::Tell(_port, _who) => None,
+    if let Load::Tell(_port, _who) = held.load {
+        return None;
+    }
+    match expr {
+        NodeExpr::Rol(role) => Some(role),
+        _ => None,
     }
 }
 

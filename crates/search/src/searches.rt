@@ -20,7 +20,7 @@ use crate::letters::{Held, Load};
 use crate::members::solutions_in_order;
 use crate::outcomes::{Finished, Status};
 use crate::queries::{Hint, Need, Query, Task};
-use crate::stages::{Stage, break_off, deliver, give_back, held_letter, hold, send};
+use crate::stages::{Stage, break_off, deliver, held_letter, hold, leave_letters, rest, send};
 use crate::tables::Tables;
 use cred_graph::Graph;
 use names::{Entity, Role};
@@ -140,17 +140,16 @@ impl Search {
     /// Ends the search. Its tables, emptied, are spare from now on: those of its letters only where the search is small and there
     /// are no others.
     pub fn leave_tables(self, spare: &mut Tables) {
-        let is_small = self.is_small();
         let Search {
             query: _query,
             work: _work,
             snapshot: _snapshot,
             mut found,
-            stage,
+            mut stage,
             keeps_room: _,
         } = self;
-        if is_small && stage.has_first_room() && !spare.stage.has_first_room() {
-            spare.stage = stage;
+        if found.is_small() {
+            leave_letters(&mut stage, &mut spare.stage);
         }
         found.forget();
         spare.found = found;
@@ -163,7 +162,8 @@ impl Search {
         ensures { self.new ≡ self.old }
     {
         self.keeps_room = false;
-        give_back(&mut self.stage, &mut self.found, &mut spare.stage);
+        leave_letters(&mut self.stage, &mut spare.stage);
+        rest(&mut self.stage, &mut self.found, false);
     }
 
     /// How many letters wait.
@@ -266,7 +266,7 @@ impl Search {
         }
         let snap = self.snapshot.clone()?;
         let Some((letter, need)) = self.take_letter(place) else {
-            return Ok(None);
+            unreachable!()
         };
         Ok(Some(Task { letter, need, snap }))
     }

@@ -1,7 +1,7 @@
 //! Where a search stands, and the steps of its computation.
-ghost use Rattle.std.specs.Prelude.{◌≡◌, ◌≤◌, ℕ, List, All, None, slice_get, OnOk, MatchOption};
+ghost use Rattle.std.specs.Prelude.{◌≡◌, ◌≤◌, ℕ, List, All, None, slice_get, IsTrue, OnOk, MatchOption};
 ghost use Rattle.scholten_core.specs.declared.letters.Letter.{Letter};
-ghost use Rattle.scholten_core.specs.Computation.{Computation, IsHeld};
+ghost use Rattle.scholten_core.specs.Computation.{Computation, IsHeld, outstanding};
 ghost use Rattle.scholten_core.specs.Step.{started};
 ghost use Rattle.search.specs.Net.{Said, IsLoad, outs_at};
 ghost use Rattle.search.specs.declared.letters.Load.TheVariants as Load;
@@ -39,7 +39,9 @@ const FEW_LETTERS: u64 = 32_768;
 
 impl Stage {
     // Whether it is that of a search that is completed, by few letters.
-    pub(crate) fn is_small(&self) -> bool {
+    pub(crate) fn is_small(&self) -> bool
+        ensures { IsTrue result → (c : Computation Said) × (self.now ≡ Stage.Running c) × (outstanding c ≡ 0) }
+    {
         let Stage::Running(running) = self else {
             return false;
         };
@@ -137,36 +139,33 @@ pub(crate) fn break_off(stage: &mut Stage, _refusal: AllocError)
     *stage = Stage::Broken;
 }
 
-// Gives back the memory that nothing takes, unless it is kept and isn't much.
+// Gives back the memory that nothing takes, where nothing is outstanding, unless it is kept and isn't much.
 #[cold]
 #[inline(never)]
-fn rest(running: &mut Diffusion<Load<u32>>, found: &mut Findings, keeps_room: bool)
-    ensures same { running.new ≡ running.old }
-    ensures findings { (found.new.graph ≡ found.old.graph) × (found.new.monitors ≡ found.old.monitors) }
-{
-    if keeps_room && found.is_small() && running.sent() <= FEW_LETTERS {
-        return;
-    }
-    running.give_back();
-    found.give_back();
-}
-
-// Gives back the memory that nothing takes, where nothing is outstanding. The tables of letters, of a search by few of them, are
-// spare from now on, where there are no others.
-pub(crate) fn give_back(stage: &mut Stage, found: &mut Findings, spare: &mut Stage)
+pub(crate) fn rest(stage: &mut Stage, found: &mut Findings, keeps_room: bool)
     ensures same { stage.new ≡ stage.old }
     ensures findings { (found.new.graph ≡ found.old.graph) × (found.new.monitors ≡ found.old.monitors) }
 {
+    if keeps_room && stage.is_small() && found.is_small() {
+        return;
+    }
     if let Stage::Running(running) = stage {
         if running.is_complete() {
-            if !spare.has_first_room()
-                && running.has_first_room()
-                && running.sent() <= FEW_LETTERS
-            {
-                *spare = Stage::Running(running.hand_over());
-            }
-            rest(running, found, false);
+            running.give_back();
+            found.give_back();
         }
+    }
+}
+
+// The tables of letters, of a search that is completed by few of them, are spare from now on, where there are no others.
+pub(crate) fn leave_letters(stage: &mut Stage, spare: &mut Stage)
+    ensures { stage.new ≡ stage.old }
+{
+    if spare.has_first_room() || !stage.is_small() || !stage.has_first_room() {
+        return;
+    }
+    if let Stage::Running(running) = stage {
+        *spare = Stage::Running(running.hand_over());
     }
 }
 
@@ -185,7 +184,7 @@ pub(crate) fn deliver(stage: &mut Stage, found: &mut Findings, place: u64, keeps
     }
     running.signal(place);
     if running.is_complete() {
-        rest(running, found, keeps_room);
+        rest(stage, found, keeps_room);
     }
     true
 }

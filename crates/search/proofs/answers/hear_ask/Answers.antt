@@ -11,8 +11,8 @@ use Rattle.search.proofs.Numbered.{numbered_listened}
 use Rattle.search.proofs.answers.hear_ask.Goals as goal
 use Rattle.search.proofs.answers.hear_ask.Goals.{After-graph}
 
-pub invariant_of-found-2 : goal.invariant_of-found-2
-invariant_of-found-2 c =
+pub invariant_of-found-then-branch : goal.invariant_of-found-then-branch
+invariant_of-found-then-branch c =
     let old = c.found.inside in
     numbered_listened old.graph c.add_numbered_listener.new.self c.args.node c.args.asker c.args.port c.in_ok-add_numbered_listener.field-0 old.monitors.items old.outs.items c.in_ok-add_numbered_listener.ensures.ok
     (subst (λ (s : Progress). c.args.node < length s.graph.nodes) (sym c.found.view_is) c.requires.node) c.add_numbered_listener.ensures.graph
@@ -31,16 +31,16 @@ loop-place-preserved c =
 pub loop-place-init : goal.loop-place-init
 loop-place-init c =
     let old = c.found.inside in
-    let given = rw c.if-not-branch.false at c.in_ok-add_numbered_listener.ensures.ok in
+    let given = rw c.if-branch.true at c.in_ok-add_numbered_listener.ensures.ok in
     rw (← c.found.view_is) (given, ap (λ (g : GraphState). map (monitor_at g.nodes) old.monitors.items) given.1, ap (λ (g : GraphState). outs_at g.nodes old.outs.items) given.1 ∙ sym (append-nil (outs_at old.graph.nodes old.outs.items)))
 
-pub returns : goal.returns
-returns c =
+pub returns-after-loop-place : goal.returns-after-loop-place
+returns-after-loop-place c =
     let s = c.args.found.now in
     let t = c.loop-place.found in
     let (given, monitors, outs) = c.loop-place.invariant in
     let new = rw (← c.found.view_is) at given.1 in
-    let first = rw c.if-not-branch.false at c.in_ok-add_numbered_listener.ensures.ok in
+    let first = rw c.if-branch.true at c.in_ok-add_numbered_listener.ensures.ok in
     let count = ap (λ (g : GraphState). length (members_of g c.args.node)) (c.graph.ensures.graph ∙ first.1 ∙ sym new) in
     let all = told_all (λ (g : GraphState) (who : List ℕ). (c.args.asker, load.Tell (port_at g.nodes c.args.port) who)) (λ (g : GraphState). members_of g c.args.node) s t c.loop-place.place outs (omega (arith, count, c.solutions-place-end.ensures.count, c.loop-place-test.false)) in
     (true, given, monitors, all ∙ ap (λ (g : GraphState). s.outs ++ known_tells g c.args.node c.args.asker (port_at g.nodes c.args.port)) given.1)
@@ -48,7 +48,7 @@ returns c =
 -- nodes stay
 nodes : (c : After-graph) → c.graph.result.now.nodes ≡ c.args.found.now.graph.nodes
 nodes c =
-    let first = rw c.if-not-branch.false at c.in_ok-add_numbered_listener.ensures.ok in
+    let first = rw c.if-branch.true at c.in_ok-add_numbered_listener.ensures.ok in
     ap (λ (g : GraphState). g.nodes) (c.graph.ensures.graph ∙ first.1) ∙ ap (λ (s : Progress). s.graph.nodes) c.found.view_is
 
 pub solutions-place-end-requires : goal.solutions-place-end-requires

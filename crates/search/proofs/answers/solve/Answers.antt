@@ -18,8 +18,8 @@ pub add_numbered_solution-requires-clause-fits : goal.add_numbered_solution-requ
 add_numbered_solution-requires-clause-fits c =
     subst (λ (s : Progress). Fits s.graph c.args.node (entity_at s.graph.nodes c.args.who) (reason_at s.graph.nodes c.args.reason)) (sym c.found.view_is) c.requires.fits
 
-pub invariant_of-found-2 : goal.invariant_of-found-2
-invariant_of-found-2 c =
+pub invariant_of-found-then-branch : goal.invariant_of-found-then-branch
+invariant_of-found-then-branch c =
     let old = c.found.inside in
     let given : Solution = record { node = c.args.node; who = entity_at old.graph.nodes c.args.who; reason = reason_at old.graph.nodes c.args.reason } in
     numbered_solved old.graph c.add_numbered_solution.new.self given c.in_ok-add_numbered_solution.field-0 old.monitors.items old.outs.items c.in_ok-add_numbered_solution.ensures.ok c.found.invariant
@@ -41,16 +41,16 @@ numbered_listener-asker-requires-clause-named c = λ l at. c.graph-in-loop-place
 pub loop-place-init : goal.loop-place-init
 loop-place-init c =
     let old = c.found.inside in
-    let given = rw c.if-not-branch.false at c.in_ok-add_numbered_solution.ensures.ok in
+    let given = rw c.if-branch.true at c.in_ok-add_numbered_solution.ensures.ok in
     rw (← c.found.view_is) (given, ap (λ (g : GraphState). map (monitor_at g.nodes) old.monitors.items) given.1, ap (λ (g : GraphState). outs_at g.nodes old.outs.items) given.1 ∙ sym (append-nil (outs_at old.graph.nodes old.outs.items)))
 
-pub returns : goal.returns
-returns c =
+pub returns-after-loop-place : goal.returns-after-loop-place
+returns-after-loop-place c =
     let s = c.args.found.now in
     let t = c.loop-place.found in
     let (given, monitors, outs) = c.loop-place.invariant in
     let new = rw (← c.found.view_is) at given.1 in
-    let first = rw c.if-not-branch.false at c.in_ok-add_numbered_solution.ensures.ok in
+    let first = rw c.if-branch.true at c.in_ok-add_numbered_solution.ensures.ok in
     let count = ap (λ (g : GraphState). length (listeners_of g c.args.node)) (c.graph.ensures.graph ∙ first.1 ∙ sym new) in
     let all = told_all (λ (g : GraphState) (l : Listening). (l.asker, load.Tell l.port (entity_at g.nodes c.args.who))) (λ (g : GraphState). listeners_of g c.args.node) s t c.loop-place.place outs (omega (arith, count, c.listeners-place-end.ensures.count, c.loop-place-test.false)) in
     (true, given, monitors, all ∙ ap (λ (g : GraphState). s.outs ++ new_tells g c.args.node (entity_at g.nodes c.args.who)) given.1)
@@ -58,7 +58,7 @@ returns c =
 -- nodes stay
 nodes : (c : After-graph) → c.graph.result.now.nodes ≡ c.args.found.now.graph.nodes
 nodes c =
-    let first = rw c.if-not-branch.false at c.in_ok-add_numbered_solution.ensures.ok in
+    let first = rw c.if-branch.true at c.in_ok-add_numbered_solution.ensures.ok in
     ap (λ (g : GraphState). g.nodes) (c.graph.ensures.graph ∙ first.1) ∙ ap (λ (s : Progress). s.graph.nodes) c.found.view_is
 
 pub listeners-place-end-requires : goal.listeners-place-end-requires

@@ -22,7 +22,7 @@ delivers c = (c.in-Running.running, c.signal.new.self, c.in-Running.is, refl, su
 
 pub returns-then-is_complete : goal.returns-then-is_complete
 returns-then-is_complete c = record {
-  delivers = subst (λ (e : Computation Said). Delivers c.args.stage.now (stage.Running e) c.args.place true) (sym c.rest.ensures.same) (delivers (goal.at.returns-then-is_complete c).After-signal);
+  delivers = subst (λ (s : Stage). Delivers c.args.stage.now s c.args.place true) (sym c.rest.ensures.same) (delivers (goal.at.returns-then-is_complete c).After-signal);
   findings = c.rest.ensures.findings;
 }
 
