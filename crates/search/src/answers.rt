@@ -139,24 +139,6 @@ fn told_base(found: &mut Findings, node: u64, base: u32) -> Result<(), AllocErro
     }
 }
 
-// An intersection hears that a part told the entity; with the last part it is a solution.
-fn told_part(found: &mut Findings, node: u64, part: u8, who: u32) -> Result<(), AllocError>
-    requires node { node < length found.old.graph.nodes }
-    requires entity { IsEntity found.old.graph.nodes who }
-    requires monitor { (x : MeetTold) × (slice_get found.old.monitors node ≡ Some (Monitor.Meet x)) × (part < x.parts) }
-    requires last { TellsLast found.old.graph found.old.monitors node part (entity_at found.old.graph.nodes who) }
-    ensures { OnOk result (TellsPart found.old found.new node part (entity_at found.old.graph.nodes who)) }
-{
-    let NumberedMonitor::Meet(told) = &mut found.monitors[node as usize] else {
-        unreachable!()
-    };
-    match told.part_told(part, who) {
-        Ok(true) => solve(found, node, who, Reason::Parts),
-        Ok(false) => Ok(()),
-        Err(refusal) => Err(refusal),
-    }
-}
-
 /// For the bodies of so many rows room is made as they are asked. For more it is made at once, so that tables grow once.
 const FEW_ROWS: u64 = 16;
 
@@ -273,7 +255,16 @@ pub(crate) fn receive(
             }
             Port::Via(base) => solve(found, node, who, Reason::Via(base)),
             Port::Base => told_base(found, node, who),
-            Port::Part(part) => told_part(found, node, part, who),
+            Port::Part(part) => {
+                let NumberedMonitor::Meet(told) = &mut found.monitors[node as usize] else {
+                    unreachable!()
+                };
+                match told.part_told(part, who) {
+                    Ok(true) => solve(found, node, who, Reason::Parts),
+                    Ok(false) => Ok(()),
+                    Err(refusal) => Err(refusal),
+                }
+            }
         },
         Load::Start => unreachable!(),
     }

@@ -1,13 +1,9 @@
 ghost use Rattle.std.specs.Prelude.{◌≡◌, ℕ, [], ◌∷◌, ◌++◌, OnOk, OnErr};
-ghost use Rattle.credential_text.specs.declared.exprs.Expr.TheVariants as exprs;
-ghost use Rattle.cred_graph.specs.Graph.{IsGraph, empty_graph};
+ghost use Rattle.cred_graph.specs.Graph.{empty_graph};
 
-use crate::answers::node_for;
 use crate::letters::Load;
 use cred_graph::Graph;
-use credential_text::Expr;
 use monitors::{KeyedMeet, MeetMonitor, ToldKeys};
-use names::Role;
 use std::alloc::{AllocError, Global};
 use std::collections::VecDeque;
 use std::marker::Model;
@@ -72,7 +68,7 @@ const MOST_ROOM: usize = 64;
 /// Room for so many nodes is made before the first one is added, as many as four groups of a map's index take: what begins
 /// smaller is moved several times in a search of a hundred letters, and a table of the asked role's node alone would be moved
 /// for the next.
-const FIRST_NODES: u64 = 36;
+pub(crate) const FIRST_NODES: u64 = 36;
 
 /// An emptied list of monitors gives its room back where it is less than that, or more than for so many nodes.
 const MOST_NODES: u64 = 4096;
@@ -94,17 +90,6 @@ impl Findings {
         let room = self.monitors.capacity();
         let is_kept = FIRST_NODES <= room as u64 && room as u64 <= MOST_NODES;
         self.monitors.shrink_to(if is_kept { room } else { 0 });
-    }
-
-    // What a search for the role has found before its first letter is received: the role's node, whose number it answers.
-    pub(crate) fn first(&mut self, role: Role) -> Result<u64, AllocError>
-        requires { self.old ≡ progress empty_graph [] [] }
-        ensures found { OnOk result (self.new
-            ≡ progress (record { nodes = exprs.Rol role ∷ []; listeners = [] ∷ []; solutions = [] }) (Monitor.Plain ∷ []) []) }
-        ensures laws { OnOk result (IsGraph self.new.graph) }
-    {
-        self.reserve(FIRST_NODES)?;
-        node_for(self, &Expr::Rol(role))
     }
 
     // The graph. Each entity that a listener's port names has a node.

@@ -119,8 +119,7 @@ impl Search {
             mut found,
             mut stage,
         } = mem::replace(spare, Tables::new(alloc));
-        found.first(query.role())?;
-        stage.begin(alloc)?;
+        stage.begin(&mut found, alloc, query.role())?;
         Ok(Search {
             query,
             work,

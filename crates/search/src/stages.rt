@@ -1,15 +1,22 @@
 //! Where a search stands, and the steps of its computation.
-ghost use Rattle.std.specs.Prelude.{◌≡◌, ◌≤◌, ℕ, List, All, None, slice_get, IsTrue, OnOk, MatchOption};
+ghost use Rattle.std.specs.Prelude.{◌≡◌, ◌≤◌, ◌∷◌, [], ℕ, List, All, None, slice_get, IsTrue, OnOk, MatchOption};
 ghost use Rattle.scholten_core.specs.declared.letters.Letter.{Letter};
 ghost use Rattle.scholten_core.specs.Computation.{Computation, IsHeld, outstanding};
 ghost use Rattle.scholten_core.specs.Step.{started};
 ghost use Rattle.search.specs.Net.{Said, IsLoad, outs_at};
 ghost use Rattle.search.specs.declared.letters.Load.TheVariants as Load;
+ghost use Rattle.credential_text.specs.declared.exprs.Expr.TheVariants as exprs;
+ghost use Rattle.cred_graph.specs.Graph.{IsGraph, empty_graph};
+ghost use Rattle.search.specs.Answers.{progress};
+ghost use Rattle.search.specs.declared.findings.Monitor.TheVariants as Monitor;
 ghost use Rattle.search.specs.Stage.{waiting_in, held_in, HoldsLetter, Holds, Sends, Delivers};
 
-use crate::findings::Findings;
+use crate::answers::node_for;
+use crate::findings::{FIRST_NODES, Findings};
 use crate::letters::{Held, Load};
 use crate::outcomes::Finished;
+use credential_text::Expr;
+use names::Role;
 use scholten_core::Diffusion;
 use std::alloc::{AllocError, Global};
 
@@ -56,10 +63,22 @@ impl Stage {
         running.has_first_room()
     }
 
-    // The computation of a search begins, in the tables of letters that the one which stood here has left, if there are any.
-    pub(crate) fn begin(&mut self, alloc: Global) -> Result<(), AllocError>
+    // A search for the role begins, which has found nothing yet: the role's node is there, and its letter waits, in the tables of
+    // letters that the search which stood here has left, if there are any.
+    pub(crate) fn begin(
+        &mut self,
+        found: &mut Findings,
+        alloc: Global,
+        role: Role,
+    ) -> Result<(), AllocError>
+        requires { found.old ≡ progress empty_graph [] [] }
         ensures started { OnOk result (self.new ≡ Stage.Running (started 0 Load.Start)) }
+        ensures found { OnOk result (found.new
+            ≡ progress (record { nodes = exprs.Rol role ∷ []; listeners = [] ∷ []; solutions = [] }) (Monitor.Plain ∷ []) []) }
+        ensures laws { OnOk result (IsGraph found.new.graph) }
     {
+        found.reserve(FIRST_NODES)?;
+        node_for(found, &Expr::Rol(role))?;
         if let Stage::Running(running) = self {
             return running.restart(0, Load::Start);
         }

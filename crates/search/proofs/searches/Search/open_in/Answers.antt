@@ -8,15 +8,15 @@ use Rattle.search.proofs.searches.Search.open_in.Goals as goal
 
 pub invariant_of-result : goal.invariant_of-result
 invariant_of-result c =
-    let found = c.first.new.self in
+    let found = c.begin.new.found in
     opened_kept (record { query = c.args.query; work = c.args.work; snapshot = arc_value c.args.snapshot; graph = found.graph; monitors = found.monitors; stage = c.begin.new.self })
-    (ap (λ (s : Progress). s.graph) c.in_ok-first.ensures.found ∙ ap first_graph c.role.ensures) (ap (λ (s : Progress). s.monitors) c.in_ok-first.ensures.found) c.in_ok-begin.ensures.started c.requires c.in_ok-first.ensures.laws
+    (ap (λ (s : Progress). s.graph) c.in_ok-begin.ensures.found ∙ ap first_graph c.role.ensures) (ap (λ (s : Progress). s.monitors) c.in_ok-begin.ensures.found) c.in_ok-begin.ensures.started c.requires c.in_ok-begin.ensures.laws
 
 pub returns : goal.returns
 unfolding new_search
 returns c =
-    let graph = ap (λ (s : Progress). s.graph) c.in_ok-first.ensures.found ∙ ap first_graph c.role.ensures in
-    let monitors = ap (λ (s : Progress). s.monitors) c.in_ok-first.ensures.found in
+    let graph = ap (λ (s : Progress). s.graph) c.in_ok-begin.ensures.found ∙ ap first_graph c.role.ensures in
+    let monitors = ap (λ (s : Progress). s.monitors) c.in_ok-begin.ensures.found in
     λ i. record {
       query = c.args.query;
       work = c.args.work;
