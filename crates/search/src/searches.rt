@@ -219,7 +219,7 @@ impl Search {
             (role : Role) → self.now.query ≡ Query.Who role → settled_of self.now ≡ Members members.items) }
     {
         let alloc = *self.found.monitors.allocator();
-        solutions_in_order(alloc, self.found.graph(), 0)
+        solutions_in_order(alloc, self.found.graph())
     }
 
     /// Takes the waiting letter at that place, in order of sending, without the snapshot: its number, and what it
@@ -297,11 +297,12 @@ impl Search {
         let Some(held) = held_letter(&self.stage, letter) else {
             return Finished::NotHeld;
         };
-        if !hint_is_right(self.found.graph(), &self.snapshot, &held, &hint) {
+        if hint_is_right(self.found.graph(), &self.snapshot, &held, &hint) {
+            self.receive_held(letter, &held, hint.span())
+        } else {
             self.put_back(letter);
-            return Finished::BadHint;
+            Finished::BadHint
         }
-        self.receive_held(letter, &held, hint.span())
     }
 
     /// Takes the waiting letter at that place, in order of sending: its number, and the letter in hand. `rows_for` tells what it

@@ -27,8 +27,8 @@ hint_is_right-requires c =
     subst (λ (g : GraphState). c.in-Some.held.to < length g.nodes) (sym c.graph.ensures.graph)
     (node_in (held_awaits (the_view c.self.inside) c.self.invariant.rules c.args.letter c.in-Some.held c.in-Some.ensures))
 
-pub returns-then-not-hint_is_right-clause-finishes : goal.returns-then-not-hint_is_right-clause-finishes
-returns-then-not-hint_is_right-clause-finishes c =
+pub returns-else-hint_is_right-clause-finishes : goal.returns-else-hint_is_right-clause-finishes
+returns-else-hint_is_right-clause-finishes c =
     let s = the_view c.self.inside in
     let held = c.in-Some.ensures in
     let there = subst (λ (x : SearchState). held_in x.stage c.args.letter ≡ Some (letter_in c.in-Some.held)) c.self.view_is (held_letter_is s.stage c.args.letter c.in-Some.held held) in
@@ -37,18 +37,18 @@ returns-then-not-hint_is_right-clause-finishes c =
     (subst (λ (x : SearchState). Finishes x (record x { stage = stage_marked c.args.letter false x.stage }) c.args.letter c.args.hint finished.BadHint) c.self.view_is
     (wrongly s c.args.letter c.args.hint c.in-Some.held c.deref.result.now c.deref.ensures held
     (node_in (held_awaits s c.self.invariant.rules c.args.letter c.in-Some.held held))
-    (λ right. false≢true (sym c.if-not-hint_is_right.true ∙ (right_here (goal.at.returns-then-not-hint_is_right-clause-finishes c).After-hint_is_right).1 right))))
+    (λ right. false≢true (sym c.if-hint_is_right.false ∙ (right_here (goal.at.returns-else-hint_is_right-clause-finishes c).After-hint_is_right).1 right))))
 
 pub receive_held-requires-clause-span : goal.receive_held-requires-clause-span
 receive_held-requires-clause-span c =
     subst (λ (x : SearchState). (e : Expr) → IsNode x.graph c.in-Some.held.to e → IsSpanFor x.snapshot.vaults e (option_copied c.span.result)) c.self.view_is
     (λ e at. subst (λ (o : Option Span). IsSpanFor (the_view c.self.inside).snapshot.vaults e o) (sym c.span.ensures)
     (span_for (the_view c.self.inside).snapshot.vaults e c.in-Some.held.load c.args.hint
-    ((right_here (goal.at.receive_held-requires-clause-span c).After-hint_is_right).0 c.if-not-hint_is_right.false e at ∙ ap (λ (v : SnapshotState). right_hint v.vaults (need_of e c.in-Some.held.load)) c.deref.ensures)))
+    ((right_here (goal.at.receive_held-requires-clause-span c).After-hint_is_right).0 c.if-hint_is_right.true e at ∙ ap (λ (v : SnapshotState). right_hint v.vaults (need_of e c.in-Some.held.load)) c.deref.ensures)))
 
-pub returns-clause-finishes : goal.returns-clause-finishes
-returns-clause-finishes c =
+pub returns-then-hint_is_right-clause-finishes : goal.returns-then-hint_is_right-clause-finishes
+returns-then-hint_is_right-clause-finishes c =
     let s = the_view c.self.inside in
-    let right = rightly s c.args.letter c.args.hint c.in-Some.held c.deref.result.now c.deref.ensures c.in-Some.ensures ((right_here (goal.at.returns-clause-finishes c).After-hint_is_right).0 c.if-not-hint_is_right.false) in
+    let right = rightly s c.args.letter c.args.hint c.in-Some.held c.deref.result.now c.deref.ensures c.in-Some.ensures ((right_here (goal.at.returns-then-hint_is_right-clause-finishes c).After-hint_is_right).0 c.if-hint_is_right.true) in
     finishes_rightly c.args.self.now c.receive_held.new.self c.args.letter c.args.hint (letter_in c.in-Some.held)
     (subst (λ (x : SearchState). IsRightly x c.args.letter c.args.hint (letter_in c.in-Some.held)) c.self.view_is right) c.receive_held.result c.receive_held.ensures.receives
