@@ -113,8 +113,16 @@ pub(crate) fn hear_ask(
     Ok(())
 }
 
-// A linked role hears a member of its base; where that is new, it asks the member's role.
+// Sends an Ask on the port to the node of the role. This stands apart, so that nothing else makes room for an expression.
 #[inline(never)]
+fn ask_role(found: &mut Findings, role: Role, port: Port<u32>) -> Result<(), AllocError>
+    requires { IsPort found.old.graph.nodes port }
+    ensures { OnOk result (AsksFor found.old found.new (Expr.Rol role) (port_at found.old.graph.nodes port)) }
+{
+    ask(found, &Expr::Rol(role), port)
+}
+
+// A linked role hears a member of its base; where that is new, it asks the member's role.
 fn told_base(found: &mut Findings, node: u64, base: u32) -> Result<(), AllocError>
     requires entity { IsEntity found.old.graph.nodes base }
     requires link { (r : Role) × (name : List ℕ) × IsNode found.old.graph node (exprs.Link r name) }
@@ -131,8 +139,8 @@ fn told_base(found: &mut Findings, node: u64, base: u32) -> Result<(), AllocErro
                 unreachable!()
             };
             let owner = graph.entity(base);
-            let role = Expr::Rol(Role { owner, name: *name });
-            ask(found, &role, Port::Via(base))
+            let role = Role { owner, name: *name };
+            ask_role(found, role, Port::Via(base))
         }
         Ok(false) => Ok(()),
         Err(refusal) => Err(refusal),
@@ -171,17 +179,10 @@ fn ask_parts(found: &mut Findings, parts: &[Part]) -> Result<(), AllocError>
     ensures { OnOk result (AsksEach found.old (part_asks 0 parts.now) found.new) }
 {
     for (place, part) in parts.iter().enumerate() {
-        ask(found, &part.expr(), Port::Part(place as u8))?;
+        let asked = ask(found, &part.expr(), Port::Part(place as u8));
+        asked?;
     }
     Ok(())
-}
-
-// A linked role asks its base. This stands apart, so that no other node that opens makes room for an expression.
-#[inline(never)]
-fn ask_base(found: &mut Findings, base: Role) -> Result<(), AllocError>
-    ensures { OnOk result (AsksFor found.old found.new (Expr.Rol base) Port.Base) }
-{
-    ask(found, &Expr::Rol(base), Port::Base)
 }
 
 // The node opens. Where the rows of a role stand is sought in the snapshot, unless that was looked up before. Only the parts
@@ -211,7 +212,7 @@ pub(crate) fn open(
         }
         NodeExpr::Link(base, _name) => {
             let base = *base;
-            ask_base(found, base)
+            ask_role(found, base, Port::Base)
         }
         NodeExpr::Meet(parts) => {
             let parts = parts.try_clone()?;

@@ -64,13 +64,13 @@ impl Stage {
     }
 
     // A search for the role begins, which has found nothing yet: the role's node is there, and its letter waits, in the tables of
-    // letters that the search which stood here has left, if there are any.
+    // letters that the search which stood here has left, if there are any. It answers the node's number.
     pub(crate) fn begin(
         &mut self,
         found: &mut Findings,
         alloc: Global,
         role: Role,
-    ) -> Result<(), AllocError>
+    ) -> Result<u64, AllocError>
         requires { found.old ≡ progress empty_graph [] [] }
         ensures started { OnOk result (self.new ≡ Stage.Running (started 0 Load.Start)) }
         ensures found { OnOk result (found.new
@@ -78,12 +78,11 @@ impl Stage {
         ensures laws { OnOk result (IsGraph found.new.graph) }
     {
         found.reserve(FIRST_NODES)?;
-        node_for(found, &Expr::Rol(role))?;
-        if let Stage::Running(running) = self {
-            return running.restart(0, Load::Start);
+        match self {
+            Stage::Running(running) => running.restart(0, Load::Start)?,
+            _ => *self = Stage::Running(Diffusion::start(alloc, 0, Load::Start)?),
         }
-        *self = Stage::Running(Diffusion::start(alloc, 0, Load::Start)?);
-        Ok(())
+        node_for(found, &Expr::Rol(role))
     }
 }
 

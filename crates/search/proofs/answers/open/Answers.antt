@@ -35,7 +35,7 @@ solve-requires c =
 
 pub returns-in-Link : goal.returns-in-Link
 returns-in-Link c =
-    on_ok_weaker c.ask_base.result
-    (λ asks e at. subst (λ (x : Expr). Opens (own_rows c.args.snapshot.now.vaults x) c.args.found.now c.ask_base.new.found c.args.node x) (same_Some (Link c.in-Link.base.now c.in-Link._name.now) e (sym (there (goal.at.returns-in-Link c).After-expr ∙ ap (λ x. Some (expr_lent x)) c.in-Link.is) ∙ at))
-    (c.ask_base.new.found, asks, refl))
-    c.ask_base.ensures
+    on_ok_weaker c.ask_role.result
+    (λ asks e at. subst (λ (x : Expr). Opens (own_rows c.args.snapshot.now.vaults x) c.args.found.now c.ask_role.new.found c.args.node x) (same_Some (Link c.in-Link.base.now c.in-Link._name.now) e (sym (there (goal.at.returns-in-Link c).After-expr ∙ ap (λ x. Some (expr_lent x)) c.in-Link.is) ∙ at))
+    (c.ask_role.new.found, asks, refl))
+    c.ask_role.ensures

@@ -113,8 +113,8 @@ no_other (node_expr.Rol r) is never = is
 no_other (node_expr.Link r name) is never = never r name refl
 no_other (node_expr.Meet parts) is never = is
 
-pub ask-requires : goal.ask-requires
-ask-requires c = is_entity (goal.at.ask-requires c).After-found
+pub ask_role-requires : goal.ask_role-requires
+ask_role-requires c = is_entity (goal.at.ask_role-requires c).After-found
 
 pub entity-owner-requires : goal.entity-owner-requires
 entity-owner-requires c = subst (λ (g : GraphState). IsEntity g.nodes c.args.base) (sym (same_graph (goal.at.entity-owner-requires c).After-graph-graph)) c.requires.entity
@@ -138,7 +138,7 @@ returns-in-Link-expr c =
     let (x, there) = there at.After-found in
     let owner = c.entity-owner.ensures.name ∙ ap (λ (g : GraphState). entity_at g.nodes c.args.base) (same_graph at.After-graph-graph) in
     let named = ap (λ (e : NodeExpr). name_in (expr_lent e)) (sym c.in-Link-expr.is) ∙ ap name_in (linked at.After-graph-graph _ c.expr.ensures.node) in
-    on_ok_weaker c.ask.result
+    on_ok_weaker c.ask_role.result
     (λ asks. (
       r,
       name,
@@ -149,9 +149,9 @@ returns-in-Link-expr c =
         heard at.After-hear c.in-Ok-true.field-0 (is_entity at.After-found) (told_at at.After-hear x there) c.in-Ok-true.ensures.ok,
         inr (
           c.in-Ok-true.field-0-test,
-          subst (λ (s : Progress). AsksFor (record s { monitors = told }) c.ask.new.found (Rol (record { owner = entity_at nodes c.args.base; name = name })) (port.Via (entity_at s.graph.nodes c.args.base))) c.found.view_is
-              (subst (λ (role : Role). AsksFor (record (progress_at old.graph old.monitors.items old.outs.items) { monitors = told }) c.ask.new.found (Rol role) (port.Via (entity_at old.graph.nodes c.args.base))) (λ i. record { owner = owner i; name = named i }) asks),
+          subst (λ (s : Progress). AsksFor (record s { monitors = told }) c.ask_role.new.found (Rol (record { owner = entity_at nodes c.args.base; name = name })) (port.Via (entity_at s.graph.nodes c.args.base))) c.found.view_is
+              (subst (λ (role : Role). AsksFor (record (progress_at old.graph old.monitors.items old.outs.items) { monitors = told }) c.ask_role.new.found (Rol role) (port.Via (entity_at old.graph.nodes c.args.base))) (λ i. record { owner = owner i; name = named i }) asks),
         ),
       ),
     ))
-    c.ask.ensures
+    c.ask_role.ensures
