@@ -41,12 +41,9 @@ from_none view s t from to l none = subst (λ (os : List (ℕ × Load (List ℕ)
 
 pub returns-in_default : goal.returns-in_default
 returns-in_default c =
-    let s = c.args.found.now in
-    let l = load_at s.graph.nodes c.args.held.now.load in
-    let view = c.args.snapshot.now.vaults in
     on_ok_weaker c.open.result
-    (λ opens. from_none view s c.open.new.found c.args.held.now.from c.args.held.now.to l c.requires.none
-    (answers_start c.requires.awaits.2 (starts c.requires.awaits.2 c.in_default.not-Node) view s c.open.new.found opens))
+    (λ opens. from_none c.args.snapshot.now.vaults c.args.found.now c.open.new.found c.args.held.now.from c.args.held.now.to (load_at c.args.found.now.graph.nodes c.args.held.now.load) c.requires.none
+    (answers_start c.requires.awaits.2 (starts c.requires.awaits.2 c.in_default.not-Node) c.args.snapshot.now.vaults c.args.found.now c.open.new.found opens))
     c.open.ensures
 
 -- the node is open where it hears the asker
@@ -90,15 +87,10 @@ returns-after-node-ne0 c =
     let s = c.args.found.now in
     let mid = c.if-node-ne0.found in
     let l = load_at s.graph.nodes c.args.held.now.load in
-    let view = c.args.snapshot.now.vaults in
-    let asks = subst (IsLoad s.graph.nodes) c.in-Ask.is c.requires.load in
+    let same = more_port_same s.graph.nodes mid.graph.nodes c.in-Ask.port (more at) (subst (IsLoad s.graph.nodes) c.in-Ask.is c.requires.load) in
     on_ok_weaker c.hear_ask.result
-    (λ hears. from_none view s c.hear_ask.new.found c.args.held.now.from c.args.held.now.to l c.requires.none
-    (answers_ask view s c.hear_ask.new.found c.args.held.now.from c.args.held.now.to l c.in-Node.sender (port_at s.graph.nodes c.in-Ask.port) c.in-Node.is (ap (load_at s.graph.nodes) c.in-Ask.is) (
-      mid,
-      opened at,
-      subst (HearsAsk mid c.hear_ask.new.found c.args.held.now.to c.in-Node.sender) (more_port_same s.graph.nodes mid.graph.nodes c.in-Ask.port (more at) asks) hears,
-    )))
+    (λ hears. from_none c.args.snapshot.now.vaults s c.hear_ask.new.found c.args.held.now.from c.args.held.now.to l c.requires.none
+    (answers_ask c.args.snapshot.now.vaults s c.hear_ask.new.found c.args.held.now.from c.args.held.now.to l c.in-Node.sender (port_at s.graph.nodes c.in-Ask.port) c.in-Node.is (ap (load_at s.graph.nodes) c.in-Ask.is) (mid, opened at, subst (HearsAsk mid c.hear_ask.new.found c.args.held.now.to c.in-Node.sender) same hears)))
     c.hear_ask.ensures
 
 -- what a letter tells, on a port that is known
@@ -134,11 +126,10 @@ solve-requires-clause-fits c = rw c.short-body.ensures (may_tell c.requires.awai
 pub solve-requires-in-Via-clause-fits : goal.solve-requires-in-Via-clause-fits
 solve-requires-in-Via-clause-fits c = may_tell c.requires.awaits.2 (port_at c.args.found.now.graph.nodes (port.Via c.in-Via.base)) (entity_at c.args.found.now.graph.nodes c.in-Tell.who) c.in-Node.sender (told c.args.found.now.graph.nodes c.in-Tell.is c.in-Via.is) c.in-Node.is
 
-pub told_base-requires-clause-link : goal.told_base-requires-clause-link
-told_base-requires-clause-link c = (may_tell c.requires.awaits.2 (port_at c.args.found.now.graph.nodes port.Base) (entity_at c.args.found.now.graph.nodes c.in-Tell.who) c.in-Node.sender (told c.args.found.now.graph.nodes c.in-Tell.is c.in-Base.is) c.in-Node.is).0
-
-pub told_base-requires-clause-monitor : goal.told_base-requires-clause-monitor
-told_base-requires-clause-monitor c = (may_tell c.requires.awaits.2 (port_at c.args.found.now.graph.nodes port.Base) (entity_at c.args.found.now.graph.nodes c.in-Tell.who) c.in-Node.sender (told c.args.found.now.graph.nodes c.in-Tell.is c.in-Base.is) c.in-Node.is).1
+pub told_base-requires : goal.told_base-requires
+told_base-requires c =
+    let may = may_tell c.requires.awaits.2 (port_at c.args.found.now.graph.nodes port.Base) (entity_at c.args.found.now.graph.nodes c.in-Tell.who) c.in-Node.sender (told c.args.found.now.graph.nodes c.in-Tell.is c.in-Base.is) c.in-Node.is in
+    record { entity = (subst (IsLoad c.args.found.now.graph.nodes) c.in-Tell.is c.requires.load).1; link = may.0; monitor = may.1 }
 
 pub listeners-requires : goal.listeners-requires
 listeners-requires c = rw c.graph.ensures.graph (node_in c.requires.awaits.2)
