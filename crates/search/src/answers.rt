@@ -33,8 +33,7 @@ fn monitor_for(alloc: Global, expr: &Expr) -> NumberedMonitor
     ensures numbers { (nodes : List Expr) → IsMonitor nodes result }
 {
     match expr {
-        Expr::Ent(_entity) => NumberedMonitor::Plain,
-        Expr::Rol(_role) => NumberedMonitor::Plain,
+        Expr::Ent(_) | Expr::Rol(_) => NumberedMonitor::Plain,
         Expr::Link(_base, _name) => NumberedMonitor::Link(ToldKeys::new(alloc)),
         Expr::Meet(parts) => NumberedMonitor::Meet(KeyedMeet::make(
             alloc,

@@ -35,8 +35,7 @@ impl Drop for Stage {
     fn drop(self) {
         match self {
             Stage::Running(_running) => {}
-            Stage::Spent => {}
-            Stage::Broken => {}
+            Stage::Spent | Stage::Broken => {}
         }
     }
 }

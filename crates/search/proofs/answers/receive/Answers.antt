@@ -74,11 +74,10 @@ pub hear_ask-requires : goal.hear_ask-requires
 hear_ask-requires c =
     let nodes = c.args.found.now.graph.nodes in
     let more = more (goal.at.hear_ask-requires c).Joined-node-ne0 in
-    let count = more_count nodes c.if-node-ne0.found.graph.nodes more in
-    let asks = subst (IsLoad nodes) c.in-Ask.is c.requires.load in record {
+    let count = more_count nodes c.if-node-ne0.found.graph.nodes more in record {
       node = omega (arith, count, node_in c.requires.awaits.2);
       asker = omega (arith, count, asker_in c.requires.awaits.2 (port_at nodes c.in-Ask.port) c.in-Node.sender (ap (load_at nodes) c.in-Ask.is) c.in-Node.is);
-      port = more_port nodes c.if-node-ne0.found.graph.nodes c.in-Ask.port more asks;
+      port = more_port nodes c.if-node-ne0.found.graph.nodes c.in-Ask.port more (subst (IsLoad nodes) c.in-Ask.is c.requires.load);
     }
 
 pub returns-after-node-ne0 : goal.returns-after-node-ne0
@@ -86,11 +85,10 @@ returns-after-node-ne0 c =
     let at = (goal.at.returns-after-node-ne0 c).Joined-node-ne0 in
     let s = c.args.found.now in
     let mid = c.if-node-ne0.found in
-    let l = load_at s.graph.nodes c.args.held.now.load in
     let same = more_port_same s.graph.nodes mid.graph.nodes c.in-Ask.port (more at) (subst (IsLoad s.graph.nodes) c.in-Ask.is c.requires.load) in
     on_ok_weaker c.hear_ask.result
-    (λ hears. from_none c.args.snapshot.now.vaults s c.hear_ask.new.found c.args.held.now.from c.args.held.now.to l c.requires.none
-    (answers_ask c.args.snapshot.now.vaults s c.hear_ask.new.found c.args.held.now.from c.args.held.now.to l c.in-Node.sender (port_at s.graph.nodes c.in-Ask.port) c.in-Node.is (ap (load_at s.graph.nodes) c.in-Ask.is) (mid, opened at, subst (HearsAsk mid c.hear_ask.new.found c.args.held.now.to c.in-Node.sender) same hears)))
+    (λ hears. from_none c.args.snapshot.now.vaults s c.hear_ask.new.found c.args.held.now.from c.args.held.now.to (load_at s.graph.nodes c.args.held.now.load) c.requires.none
+    (answers_ask c.args.snapshot.now.vaults s c.hear_ask.new.found c.args.held.now.from c.args.held.now.to (load_at s.graph.nodes c.args.held.now.load) c.in-Node.sender (port_at s.graph.nodes c.in-Ask.port) c.in-Node.is (ap (load_at s.graph.nodes) c.in-Ask.is) (mid, opened at, subst (HearsAsk mid c.hear_ask.new.found c.args.held.now.to c.in-Node.sender) same hears)))
     c.hear_ask.ensures
 
 -- what a letter tells, on a port that is known

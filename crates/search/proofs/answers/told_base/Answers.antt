@@ -7,7 +7,7 @@ use Rattle.credential_text.specs.declared.exprs.Expr.{Expr}
 use Rattle.credential_text.specs.declared.exprs.Expr.TheVariants.{Link, Rol}
 use Rattle.cred_graph.specs.declared.listeners.Port.TheVariants as port
 use Rattle.monitors.specs.LinkMonitor.{AddsKey}
-use Rattle.cred_graph.specs.Graph.{GraphState, IsNode}
+use Rattle.cred_graph.specs.Graph.{GraphState}
 use Rattle.cred_graph.specs.KeptExpr.{expr_lent}
 use Rattle.cred_graph.specs.declared.node_exprs.NodeExpr.{NodeExpr}
 use Rattle.cred_graph.specs.declared.node_exprs.NodeExpr.TheVariants as node_expr
