@@ -100,7 +100,7 @@ ROOMS = [
     ("scholten_core/letter_tables.rt", "LetterTable::reserve", "reserve(count)"),
     ("search/answers.rt", "node_for", "reserve(1)"),
     ("search/answers.rt", "ask_rows", "reserve(count)"),
-    ("search/findings.rt", "Findings::first", "reserve(FIRST_NODES)"),
+    ("search/stages.rt", "Stage::begin", "reserve(FIRST_NODES)"),
     ("search/findings.rt", "Findings::reserve", "reserve(count)"),
     ("search/findings.rt", "Findings::reserve", "reserve(count as usize)"),
     ("search/findings.rt", "Findings::reserve", "reserve(count as usize)"),
