@@ -265,7 +265,7 @@ impl Search {
         }
         let snap = self.snapshot.clone()?;
         let Some((letter, need)) = self.take_letter(place) else {
-            unreachable!()
+            return Ok(None);
         };
         Ok(Some(Task { letter, need, snap }))
     }

@@ -207,19 +207,13 @@ part_told-requires c =
     subst (λ (m : NumberedMonitor). c.in-Part.part < parts_in m) (same_Some (numbered_monitor.Meet x) (numbered_monitor.Meet c.in-Meet.told) (sym here ∙ told)) below
 
 pub invariant_of-found : goal.invariant_of-found
-invariant_of-found c =
-    let at = goal.at.invariant_of-found c in
-    still at.After-part_told (is_entity at.After-found) (there at.After-found)
+invariant_of-found c = still (goal.at.invariant_of-found c).After-part_told (is_entity (goal.at.invariant_of-found c).After-found) (there (goal.at.invariant_of-found c).After-found)
 
 pub invariant_of-found-in-Ok-false : goal.invariant_of-found-in-Ok-false
-invariant_of-found-in-Ok-false c =
-    let at = goal.at.invariant_of-found-in-Ok-false c in
-    still at.After-part_told (is_entity at.After-found) (there at.After-found)
+invariant_of-found-in-Ok-false c = still (goal.at.invariant_of-found-in-Ok-false c).After-part_told (is_entity (goal.at.invariant_of-found-in-Ok-false c).After-found) (there (goal.at.invariant_of-found-in-Ok-false c).After-found)
 
 pub invariant_of-found-in-Err : goal.invariant_of-found-in-Err
-invariant_of-found-in-Err c =
-    let at = goal.at.invariant_of-found-in-Err c in
-    still at.After-part_told (is_entity at.After-found) (there at.After-found)
+invariant_of-found-in-Err c = still (goal.at.invariant_of-found-in-Err c).After-part_told (is_entity (goal.at.invariant_of-found-in-Err c).After-found) (there (goal.at.invariant_of-found-in-Err c).After-found)
 
 pub solve-requires-in-Ok-true : goal.solve-requires-in-Ok-true
 solve-requires-in-Ok-true c =
