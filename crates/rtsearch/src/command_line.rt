@@ -1,6 +1,7 @@
 ghost use Rattle.std.specs.Prelude.{◌≡◌, ◌≤◌, ℕ, List, [], ◌∷◌, codes, map, true, false, IfOk, IfErr, OnOk};
+ghost use Rattle.std.specs.String.{string_bytes};
 ghost use Rattle.clap.specs.Words.{app_of, kind_of, found_of, one_text, rule_of, subcommand_rows_of};
-ghost use Rattle.rtsearch.specs.CommandLine.{AsksForScript, IsCommandLine, IsFaultOf, program, serve_command, usual_command};
+ghost use Rattle.rtsearch.specs.CommandLine.{AsksForScript, IsCommandLine, IsFaultOf, program, serve_command};
 ghost use Rattle.rtsearch.specs.CommandLine.{number_rule, usually};
 ghost use Rattle.rtsearch.specs.CommandLine.{entered, is_serve, port_test, threads_test, accept_test, idle_test};
 ghost use Rattle.rtsearch.specs.CommandLine.{HasValue, MayHaveValue, HasOptions, IsValue, IsGiven, AreThreads, Asks};
@@ -23,11 +24,11 @@ pub enum Errand {
 }
 
 /// Reads the words of the command line, the program's name first.
-pub fn read_words<'a>(alloc: Global, words: &'a [&'a str]) -> Result<Errand, Error>
-    ensures script { IfErr result (λ e. AsksForScript (map (λ w. w.now) words.now) → kind_of e ≡ ErrorKind.OutOfMemory) }
-    ensures accepted { OnOk result (IsCommandLine (map (λ w. w.now) words.now)) }
-    ensures refused { IfErr result (IsFaultOf (map (λ w. w.now) words.now)) }
-    ensures errand { IfOk result (Asks (entered (map (λ w. w.now) words.now))) }
+pub fn read_words<'a>(alloc: Global, words: &'a [String]) -> Result<Errand, Error>
+    ensures script { IfErr result (λ e. AsksForScript (map string_bytes words.now) → kind_of e ≡ ErrorKind.OutOfMemory) }
+    ensures accepted { OnOk result (IsCommandLine (map string_bytes words.now)) }
+    ensures refused { IfErr result (IsFaultOf (map string_bytes words.now)) }
+    ensures errand { IfOk result (Asks (entered (map string_bytes words.now))) }
 {
     let program = program_line(alloc)?;
     let matches = program.try_get_matches_from(words)?;
@@ -38,45 +39,41 @@ pub fn read_words<'a>(alloc: Global, words: &'a [&'a str]) -> Result<Errand, Err
 fn program_line<'a>(alloc: Global) -> Result<Command<'a>, AllocError>
     ensures { IfOk result (λ c. app_of c ≡ program) }
 {
+    let serve = serve_line(alloc)?;
     let script = Command::new(alloc, "script").about(
         "Reads a roster and commands on standard input, and writes one reply to each",
     );
-    let serve = serve_line(alloc)?;
+    let subcommands = vec![in alloc; script, serve]?;
     Command::new(alloc, "rtsearch")
         .about("Answers membership questions over RT0 credentials")
         .version(VERSION)
         .subcommand_required(true)
-        .subcommand(script)?
-        .subcommand(serve)
+        .subcommands(subcommands)
 }
 
 /// The command line of `serve`, after that word.
 fn serve_line<'a>(alloc: Global) -> Result<Command<'a>, AllocError>
     ensures { IfOk result (λ c. app_of c ≡ serve_command) }
 {
-    let connections = value_parser!(u64).range(1..=1_000_000);
-    let seconds = value_parser!(u64).range(1..=86_400);
-    let accept = "Ends after so many connections";
-    let idle =
-        "Ends a session whose peer sends nothing, or takes nothing of a reply, for so many seconds";
-    usual_line(alloc)?
-        .arg(number_option(alloc, "accept", accept, connections))?
-        .arg(number_option(alloc, "idle", idle, seconds))
-}
-
-/// Its options that have usual values: its port, and its numbers of threads.
-fn usual_line<'a>(alloc: Global) -> Result<Command<'a>, AllocError>
-    ensures { IfOk result (λ c. app_of c ≡ usual_command) }
-{
-    let threads = value_parser!(u64).range(1..=64);
+    let threads = ValueParser::unsigned(1, 64);
+    let connections = ValueParser::unsigned(1, 1_000_000);
+    let seconds = ValueParser::unsigned(1, 86_400);
     let port = "The port on 127.0.0.1, 0 for any that is free";
     let workers = "How many threads go on with the searches";
     let sessions = "How many connections are answered at once";
+    let accept = "Ends after so many connections";
+    let idle =
+        "Ends a session whose peer sends nothing, or takes nothing of a reply, for so many seconds";
+    let options = vec![in alloc;
+        usual_option(alloc, "port", port, value_parser!(u16), "0"),
+        usual_option(alloc, "workers", workers, threads, "4"),
+        usual_option(alloc, "sessions", sessions, threads, "8"),
+        number_option(alloc, "accept", accept, connections),
+        number_option(alloc, "idle", idle, seconds),
+    ]?;
     Command::new(alloc, "serve")
         .about("Reads a roster on standard input, and serves its tenants on 127.0.0.1")
-        .arg(usual_option(alloc, "port", port, value_parser!(u16), "0"))?
-        .arg(usual_option(alloc, "workers", workers, threads, "4"))?
-        .arg(usual_option(alloc, "sessions", sessions, threads, "8"))
+        .args(options)
 }
 
 /// An option of a number, which has this usual value where the words don't give one.

@@ -35,15 +35,8 @@ fn run<
     R: Read + Drop,
     W: Write,
 >(rt: &H, reader: &mut R, writer: &mut W) -> io::Result<u8> {
-    let mut words = Vec::new(rt.alloc());
-    for word in env::args(rt)? {
-        words.push(word)?;
-    }
-    let mut texts = Vec::new(rt.alloc());
-    for word in &words {
-        texts.push(word.as_str())?;
-    }
-    Ok(run_words(rt, rt.alloc(), texts.as_slice(), reader, writer))
+    let words: Vec<String> = env::args(rt)?.collect(rt.alloc())?;
+    Ok(run_words(rt, rt.alloc(), words.as_slice(), reader, writer))
 }
 
 fn main(rt: HostRuntime) -> ExitCode {

@@ -1,4 +1,5 @@
 ghost use Rattle.std.specs.Prelude.{◌≡◌, ◌≤◌, ℕ, List, Ok, Err, IfSome, map};
+ghost use Rattle.std.specs.String.{string_bytes};
 ghost use Rattle.std.specs.Io.KnownBytes.{Appends};
 ghost use Rattle.service.specs.Line.{commands_of};
 ghost use Rattle.service.specs.Written.{ScriptWrote};
@@ -26,17 +27,17 @@ pub fn run_words<
     H: Net<Listener = TcpListener, Stream = TcpStream> + Threads + Wait + Clock + Sync,
     R: Read + Drop,
     W: Write,
->(rt: &H, alloc: Global, words: &[&str], reader: &mut R, writer: &mut W) -> u8
+>(rt: &H, alloc: Global, words: &[String], reader: &mut R, writer: &mut W) -> u8
     ensures ran { result ≡ 0 → IfSome (R.remaining reader.old)
-        (λ input. Ran (entered (map (λ w. w.now) words.now)) (commands_of input)
+        (λ input. Ran (entered (map string_bytes words.now)) (commands_of input)
         (Appends (W.contents writer.old) (W.contents writer.new))) }
     ensures failed { result ≡ 1 → IfSome (R.remaining reader.old)
-        (λ input. Failed (entered (map (λ w. w.now) words.now)) (commands_of input)
+        (λ input. Failed (entered (map string_bytes words.now)) (commands_of input)
         (Appends (W.contents writer.old) (W.contents writer.new))) }
-    ensures script { AsksForScript (map (λ w. w.now) words.now) → result ≤ 1 }
-    ensures accepted { result ≡ 0 → IsCommandLine (map (λ w. w.now) words.now) }
-    ensures fault { result ≡ 2 → IsCommandLine (map (λ w. w.now) words.now) → ⊥ }
-    ensures refused { (IsCommandLine (map (λ w. w.now) words.now) → ⊥) → R.remaining reader.new ≡ R.remaining reader.old }
+    ensures script { AsksForScript (map string_bytes words.now) → result ≤ 1 }
+    ensures accepted { result ≡ 0 → IsCommandLine (map string_bytes words.now) }
+    ensures fault { result ≡ 2 → IsCommandLine (map string_bytes words.now) → ⊥ }
+    ensures refused { (IsCommandLine (map string_bytes words.now) → ⊥) → R.remaining reader.new ≡ R.remaining reader.old }
     ensures unread { result ≡ 2 → R.remaining reader.new ≡ R.remaining reader.old }
     ensures status { result ≤ 2 }
 {

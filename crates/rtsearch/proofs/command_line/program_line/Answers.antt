@@ -1,5 +1,5 @@
 -- Both subcommands.
-use Rattle.std.proofs.Common.{rules, ap, ap₂, codes, true, ◌≡◌, ◌∙◌}
+use Rattle.std.proofs.Common.{ap, ap₂, codes, sym, true, ◌≡◌, ◌∙◌}
 use Rattle.std.proofs.lemmas.Result.{IfOk-weaker}
 use Rattle.clap.specs.Words.{App, app_of, new_app, with_subcommand}
 use Rattle.clap.specs.Simple.{app_of_fields}
@@ -19,6 +19,10 @@ returns c =
     let serve_is = c.in_ok-serve.ensures in
     let bare_is : app_of c.subcommand_required.result ≡ rtsearch = ap app_of_fields c.subcommand_required.ensures
     ∙ ap requiring (ap app_of_fields c.version.ensures ∙ ap versioned (ap app_of_fields c.about.ensures ∙ c.new-2.ensures.app)) in
-    let one = c.in_ok-subcommand.ensures.shape (search rules) ∙ ap₂ with_subcommand bare_is (ap (λ (a : App). a.top) script_is) in
     let local = third_is_false _ _ _ _ (ap (λ (a : App). a.top.is_plain) serve_is) in
-    IfOk-weaker c.subcommand-2.result _ _ (λ command adds. adds.shape local ∙ ap₂ with_subcommand one (ap (λ (a : App). a.top) serve_is)) c.subcommand-2.ensures
+    IfOk-weaker c.subcommands.result _ _
+    (λ command adds.
+    let turns = rw c.in_ok-subcommands.ensures.items at adds in
+    let one = turns.1.shape (third_is_false _ _ _ _ (ap (λ (a : App). a.top.is_plain) script_is)) ∙ ap₂ with_subcommand bare_is (ap (λ (a : App). a.top) script_is) in
+    sym (ap app_of turns.2.2) ∙ turns.2.1.shape local ∙ ap₂ with_subcommand one (ap (λ (a : App). a.top) serve_is))
+    c.subcommands.ensures
