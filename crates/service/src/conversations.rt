@@ -1,9 +1,10 @@
 //! A conversation: each line that comes in is answered before the next one is taken, and what is ready goes out before a line is read.
 ghost use Rattle.std.specs.Prelude.{◌≡◌, ℕ, List, [], IfOk, OnOk, OnErr};
 ghost use Rattle.std.specs.Io.KnownBytes.{Appends};
+ghost use Rattle.service.specs.declared.lines.Stage.TheVariants.{Open};
 ghost use Rattle.service.specs.declared.refusals.Refusal.TheVariants as refusal;
 ghost use Rattle.service.specs.{Line.Line, Line.text, Line.too_long, Line.not_ascii};
-ghost use Rattle.service.specs.{LineReader.IfKnown, Written.Conversed, Written.WroteFront, Written.SendsUpTo};
+ghost use Rattle.service.specs.{LineReader.IfKnown, LineReader.left_at, Written.Conversed, Written.WroteFront, Written.SendsUpTo};
 
 use crate::lines::{LineReader, NextLine};
 use crate::outboxes::Outbox;
@@ -11,6 +12,7 @@ use crate::refusals::Refusal;
 use crate::reply_buffers::ReplyBuffer;
 use crate::writing::WriteFault;
 use names::texts::is_blank;
+use std::alloc::{AllocError, Global};
 use std::io::{Read, Write};
 
 /// How a conversation ended.
@@ -53,6 +55,20 @@ pub(crate) trait Host {
     fn refuse(&self, why: Refusal, reply: &mut ReplyBuffer) -> Flow
         ensures long { why ≡ refusal.LineLong → Answers self.now too_long reply.new result self.now }
         ensures not_ascii { why ≡ refusal.NotAscii → Answers self.now not_ascii reply.new result self.now };
+}
+
+/// Takes the room that a conversation needs before anything is read: for a line, for a reply that is short, and for replies that wait.
+pub(crate) fn room_for<I: Read + Drop>(
+    alloc: Global,
+    reader: I,
+) -> Result<(LineReader<I>, ReplyBuffer, Outbox), AllocError>
+    ensures source { IfOk result (λ room. room.0 ≡ left_at Open (I.remaining reader)) }
+    ensures nothing_waits { IfOk result (λ room. room.2 ≡ []) }
+{
+    let reply = ReplyBuffer::make(alloc)?;
+    let out = Outbox::make(alloc)?;
+    let lines = LineReader::make(alloc, reader)?;
+    Ok((lines, reply, out))
 }
 
 /// Answers each line that is left and isn't blank, up to the end of the input or of the conversation. Replies wait for one another

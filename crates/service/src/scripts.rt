@@ -5,7 +5,7 @@ ghost use Rattle.service.specs.Outcome.{IsSaid, deed_of, Becomes};
 ghost use Rattle.service.specs.{Command.form_of, Line.commands_of, LineReader.IfKnown, Written.end_of, Written.ScriptWrote};
 
 use crate::commands::{Command, read_command};
-use crate::conversations::{Flow, Host, SessionEnd, converse};
+use crate::conversations::{Flow, Host, SessionEnd, converse, room_for};
 use crate::faults::ScriptFault;
 use crate::lines::LineReader;
 use crate::outboxes::Outbox;
@@ -74,9 +74,7 @@ pub fn run_script_keeping<R: Read + Drop, W: Write>(
     ensures { IfSome (R.remaining reader)
         (λ input. ScriptWrote (commands_of input) result (Appends (W.contents writer.old) (W.contents writer.new))) }
 {
-    let mut reply = ReplyBuffer::make(alloc)?;
-    let mut lines = LineReader::make(alloc, reader)?;
-    let mut out = Outbox::make(alloc)?;
+    let (mut lines, mut reply, mut out) = room_for(alloc, reader)?;
     run_lines(alloc, &mut lines, &mut reply, &mut out, writer, kept)
 }
 

@@ -6,9 +6,7 @@ ghost use Rattle.service.specs.Session.{IsGreeted, IsLetIn, IsCarriedOut, IsSess
 
 use crate::callers::{Caller, Door};
 use crate::commands::{Command, read_command};
-use crate::conversations::{Flow, Host, SessionEnd, converse};
-use crate::lines::LineReader;
-use crate::outboxes::Outbox;
+use crate::conversations::{Flow, Host, SessionEnd, converse, room_for};
 use crate::refusals::Refusal;
 use crate::replies::{fill_error, fill_hello, fill_reply, fill_text};
 use crate::reply_buffers::ReplyBuffer;
@@ -119,13 +117,7 @@ pub fn answer_session<L: Naming, R: Wait, I: Read + Drop, W: Write>(
         (λ input. SessionWrote L.roster roster.now (commands_of input) result.0 result.1
         (Appends (W.contents writer.old) (W.contents writer.new))) }
 {
-    let Ok(mut reply) = ReplyBuffer::make(alloc) else {
-        return (SessionEnd::Memory, None);
-    };
-    let Ok(mut lines) = LineReader::make(alloc, reader) else {
-        return (SessionEnd::Memory, None);
-    };
-    let Ok(mut out) = Outbox::make(alloc) else {
+    let Ok((mut lines, mut reply, mut out)) = room_for(alloc, reader) else {
         return (SessionEnd::Memory, None);
     };
     let mut session = Session {
@@ -135,20 +127,14 @@ pub fn answer_session<L: Naming, R: Wait, I: Read + Drop, W: Write>(
         caller: None,
     };
     let end = converse(&mut session, &mut lines, &mut reply, &mut out, writer);
-    (end, session.end())
+    let pass = match session.caller {
+        Some(caller) => Some(caller.end()),
+        None => None,
+    };
+    (end, pass)
 }
 
 impl<L: Naming, R: Wait> Session<'_, '_, L, R> {
-    /// The pass that it has.
-    fn end(self) -> Option<Ended<L>>
-        ensures { result ≡ self.entry.pass }
-    {
-        match self.caller {
-            Some(caller) => Some(caller.end()),
-            None => None,
-        }
-    }
-
     /// Lets in the tenant that said its word, unless memory lacks for that.
     fn let_in(&mut self, who: Entity, reply: &mut ReplyBuffer)
         requires outside { self.old.pass ≡ None }
