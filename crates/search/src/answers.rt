@@ -178,8 +178,7 @@ fn ask_parts(found: &mut Findings, parts: &[Part]) -> Result<(), AllocError>
     ensures { OnOk result (AsksEach found.old (part_asks 0 parts.now) found.new) }
 {
     for (place, part) in parts.iter().enumerate() {
-        let asked = ask(found, &part.expr(), Port::Part(place as u8));
-        asked?;
+        ask(found, &part.expr(), Port::Part(place as u8))?;
     }
     Ok(())
 }

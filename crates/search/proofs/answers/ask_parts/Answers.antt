@@ -13,8 +13,8 @@ loop-place-preserved c =
     let parts = c.args.parts.now in
     let part = c.index-parts-place.result in
     let at : slice_get parts c.loop-place.place ≡ Some part = slice_get_read parts (length parts) c.loop-place.place part refl c.loop-place-test.true c.index-parts-place.is in
-    asks_next (part_asks 0 parts) c.loop-place.place c.args.found.now c.loop-place.found c.ask-asked.new.found (part_expr part) (port.Part c.loop-place.place) c.loop-place.invariant (part_ask_at parts c.loop-place.place part at)
-    (subst (λ (e : Expr). AsksFor c.loop-place.found c.ask-asked.new.found e (port.Part c.loop-place.place)) c.expr.ensures c.in_ok-asked.ensures)
+    asks_next (part_asks 0 parts) c.loop-place.place c.args.found.now c.loop-place.found c.ask.new.found (part_expr part) (port.Part c.loop-place.place) c.loop-place.invariant (part_ask_at parts c.loop-place.place part at)
+    (subst (λ (e : Expr). AsksFor c.loop-place.found c.ask.new.found e (port.Part c.loop-place.place)) c.expr.ensures c.in_ok-ask.ensures)
 
 pub returns : goal.returns
 returns c =
