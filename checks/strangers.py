@@ -116,7 +116,7 @@ def ask_and_wait(peer, name, number, where):
     peer.talk(lines, [[f"ok {number}"], [f"search {number}"], ["yes"]], where)
 
 
-def put_chain(peer, roles=3000, members=1000):
+def put_chain(peer, roles=6000, members=1000):
     """Puts what makes `who A.c0` a search of seconds: each member goes down a chain of roles."""
     lines = [f"put A.c{place} <- A.c{place + 1}" for place in range(roles)]
     lines += [f"put A.c{roles} <- E{place}" for place in range(members)]
@@ -270,7 +270,7 @@ def idle_peers(silent=8):
             want(is_cut(peer), True, "a peer that stops within its hello is cut")
         with server.peer() as peer:
             greet(peer, "A")
-            put_chain(peer)
+            put_chain(peer, 14000)
             want(peer.ask("who A.c0"), ["search 1"], "a long search")
             began = time.monotonic()
             want(peer.ask("wait 1")[0].split()[0], "members", "a wait that is longer than peers may be idle")
