@@ -27,7 +27,7 @@ PARTS = ("src", "specs", "proofs")
 MOST_JOBS = 4  # of one crate: more was never measured
 TARGET = "x86_64-unknown-linux-gnu"
 # how the C library keeps the program's memory, as the launcher has it: one arena for all threads, since two took half as much again
-# where searches are large; huge pages, with which a large search takes up to a fifth less time; and more than usual kept of what is
+# where searches are large; huge pages, with which a large search takes up to a quarter less time; and more than usual kept of what is
 # freed, but for tables of two megabytes, which are the system's own
 TUNABLES = {"hugetlb": 1, "mmap_threshold": 1 << 21, "trim_threshold": 1 << 27}
 MEMORY = {"MALLOC_ARENA_MAX": "1", "GLIBC_TUNABLES": ":".join(f"glibc.malloc.{name}={value}" for name, value in TUNABLES.items())}
